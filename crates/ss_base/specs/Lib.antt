@@ -1,0 +1,6 @@
+pub mod Profile
+pub mod Search
+pub mod Parts
+pub mod StreamName
+pub mod ObjectName
+pub mod Padded

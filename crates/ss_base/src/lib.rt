@@ -1,0 +1,20 @@
+//! The values that every layer shares: names and pieces of chunks, ids and places of stored objects,
+//! stream names, and the numbers of the profiles. All are plain values, copied without memory.
+#![tactic(auto)]
+
+mod ids;
+mod memory;
+mod name;
+mod object;
+mod profile;
+mod stream_name;
+
+pub use ids::{ContainerId, ManifestId, Place, Standing};
+pub use memory::Memory;
+pub use name::{Name, Piece};
+pub use object::{Object, object_name};
+pub use profile::{Numbers, Profile};
+pub use stream_name::{StreamName, is_stream_name};
+
+#[cfg(test)]
+mod tests;

@@ -1,0 +1,20 @@
+// Want of memory, the one refusal that no clause ties to a cause.
+ghost use Rattle.std.specs.Prelude.{◌≡◌};
+
+use std::alloc::{AllocError, AllocFailed};
+
+/// Memory was wanted and not to be had. Unless a call says otherwise, all is as before after it.
+#[derive(Clone, Copy, Debug, PartialEq, Eq)]
+pub struct Memory;
+
+impl From<AllocError> for Memory {
+    fn from(_: AllocError) -> Self {
+        Memory
+    }
+}
+
+impl<T: Drop> From<AllocFailed<T>> for Memory {
+    fn from(_: AllocFailed<T>) -> Self {
+        Memory
+    }
+}
