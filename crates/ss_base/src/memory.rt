@@ -1,5 +1,4 @@
 // Want of memory, the one refusal that no clause ties to a cause.
-ghost use Rattle.std.specs.Prelude.{◌≡◌};
 
 use std::alloc::{AllocError, AllocFailed};
 
