@@ -1,0 +1,33 @@
+-- How counts of faults go on over several calls.
+use Rattle.std.proofs.Common.{ℕ, ◌+◌, ◌≤◌, inl, inr, arith}
+use Rattle.outside.specs.Faults.{Rose, RoseBy}
+
+-- it rose in an earlier call
+pub Rose-before : (a b c : ℕ) → Rose a b → b ≤ c → Rose a c
+Rose-before a b c (inl rose) later = inl (omega arith)
+Rose-before a b c (inr last) later = inr (omega arith)
+
+-- it rose in a later call
+pub Rose-after : (a b c : ℕ) → a ≤ b → Rose b c → Rose a c
+Rose-after a b c later (inl rose) = inl (omega arith)
+Rose-after a b c later (inr last) = inr last
+
+-- to rise once is to rise by one
+pub RoseBy-one : (a b : ℕ) → Rose a b → RoseBy 1 a b
+RoseBy-one a b (inl rose) = inl (omega arith)
+RoseBy-one a b (inr last) = inr last
+
+-- a count that didn't fall rose no times
+pub RoseBy-none : (a b : ℕ) → a ≤ b → RoseBy 0 a b
+RoseBy-none a b later = inl (omega arith)
+
+-- one time after another
+pub RoseBy-sum : (m n a b c : ℕ) → RoseBy m a b → b ≤ c → RoseBy n b c → RoseBy (m + n) a c
+RoseBy-sum m n a b c (inl rose) later (inl again) = inl (omega arith)
+RoseBy-sum m n a b c (inr last) later again = inr (omega arith)
+RoseBy-sum m n a b c rose later (inr last) = inr last
+
+-- fewer times
+pub RoseBy-fewer : (m n a b : ℕ) → RoseBy n a b → m ≤ n → RoseBy m a b
+RoseBy-fewer m n a b (inl rose) le = inl (omega arith)
+RoseBy-fewer m n a b (inr last) le = inr last

@@ -1,0 +1,29 @@
+-- Which calls on an object in memory fail (this project's own).
+use Rattle.std.specs.Prelude.{ℕ, ◌+◌, ◌-◌, ◌^◌, min, List, Bool, ◌==◌, if◌then◌else◌}
+use Rattle.std.specs.List.{list_any}
+
+-- the numbers of the calls that fail, counted from 1; how many calls were made; how many of them failed
+pub record Plan : Type 0 where
+  pub fails : List ℕ
+  pub made : ℕ
+  pub faults : ℕ
+
+-- one more, up to the last value of a u64
+abbrev pub count_up : ℕ → ℕ
+count_up n = min (n + 1) (2 ^ 64 - 1)
+
+-- whether the next call is one of those that fail
+abbrev pub fails_next : Plan → Bool
+fails_next plan = list_any (λ n. n == count_up plan.made) plan.fails
+
+-- after one more call
+abbrev pub after_call : Plan → Plan
+after_call plan = record {
+  fails = plan.fails;
+  made = count_up plan.made;
+  faults = if fails_next plan then count_up plan.faults else plan.faults;
+}
+
+-- before the first call
+abbrev pub planned : List ℕ → Plan
+planned fails = record { fails = fails; made = 0; faults = 0 }

@@ -1,0 +1,17 @@
+-- How an object of the outside counts its faults (this project's own).
+use Rattle.std.specs.Prelude.{ℕ, ◌+◌, ◌-◌, ◌^◌, ◌<◌, ◌≤◌, ◌⊎◌, IsErrOf, Result}
+use Rattle.outside.specs.declared.trouble.Trouble.{Trouble}
+use Rattle.outside.specs.declared.trouble.Trouble.TheVariants.{Fault}
+
+-- the count is higher than it was; one that stands at its last value, 2^64 - 1, counts as risen
+abbrev pub Rose : ℕ → ℕ → Type 0
+Rose before after = (before < after) ⊎ (2 ^ 64 - 1 ≤ after)
+
+-- the same for n times
+abbrev pub RoseBy : ℕ → ℕ → ℕ → Type 0
+RoseBy n before after = (before + n ≤ after) ⊎ (2 ^ 64 - 1 ≤ after)
+
+-- what each call says of its object's count: it never falls, and `Fault` is answered only where it rose in this call
+pub record HasCause {T : Type 0} (before after : ℕ) (result : Result T Trouble) : Type 0 where
+  pub later : before ≤ after
+  pub fault : IsErrOf result Fault → Rose before after

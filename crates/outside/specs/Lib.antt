@@ -1,0 +1,5 @@
+pub mod Faults
+pub mod Bytes
+pub mod CallPlan
+pub mod MemSource
+pub mod MemSink
