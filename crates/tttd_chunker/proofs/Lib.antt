@@ -1,0 +1,3 @@
+pub mod CutLaws
+pub mod SoundLaws
+pub mod SearchSteps

@@ -1,0 +1,11 @@
+//! The cut of a stream into chunks by its content, by two thresholds and two divisors (TTTD).
+#![tactic(auto)]
+
+mod laws;
+mod plain;
+
+pub use laws::cut_is_tttd;
+pub use plain::cut_all;
+
+#[cfg(test)]
+mod tests;
