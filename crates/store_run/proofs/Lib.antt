@@ -1,0 +1,4 @@
+mod PrintingLaws
+mod LinesLaws
+mod SizedLaws
+mod StatusLaws

@@ -1,0 +1,67 @@
+// Runs that end early.
+ghost use Rattle.std.specs.Prelude.{◌≡◌, ◌≢◌, ◌⊎◌};
+ghost use Rattle.std.specs.Io.KnownBytes.{Appends};
+ghost use Rattle.outside.specs.Bytes.{AppendsFront};
+ghost use Rattle.outside.specs.Faults.{Rose};
+ghost use Rattle.store_run.specs.Stop.{fault_line, status_of, stop_of};
+ghost use Rattle.store_run.specs.declared.stop.Stop.TheVariants.{Memory};
+
+use outside::Trouble;
+use std::alloc::AllocError;
+
+/// Why a run ends before it has printed its output.
+#[derive(Clone, Copy, Debug, PartialEq, Eq)]
+pub enum Stop {
+    /// No command has the words.
+    Usage,
+    /// The source gave more bytes than a stream may have.
+    TooLong,
+    /// Memory was wanted.
+    Memory,
+    /// The source failed.
+    SourceFault,
+}
+
+impl From<AllocError> for Stop {
+    ghost from_gives = { λ _ why. why ≡ Memory };
+
+    fn from(_: AllocError) -> Self {
+        Stop::Memory
+    }
+}
+
+impl Stop {
+    /// Why a run ends where its source answers this.
+    pub fn of_source(trouble: Trouble) -> Self
+        ensures { result ≡ stop_of trouble }
+    {
+        match trouble {
+            Trouble::Fault => Stop::SourceFault,
+            Trouble::Memory => Stop::Memory,
+        }
+    }
+
+    /// The fault line, with its LF.
+    pub fn line(self) -> &'static [u8]
+        ensures { result.now ≡ fault_line self }
+    {
+        match self {
+            Stop::Usage => b"usage\n",
+            Stop::TooLong => b"limit stream\n",
+            Stop::Memory => b"memory\n",
+            Stop::SourceFault => b"source fault\n",
+        }
+    }
+
+    /// The status that stands for it.
+    pub fn status(self) -> u8
+        ensures { result ≡ status_of self }
+    {
+        match self {
+            Stop::Usage => 1,
+            Stop::TooLong => 7,
+            Stop::Memory => 8,
+            Stop::SourceFault => 12,
+        }
+    }
+}
