@@ -3,17 +3,22 @@
 #![tactic(auto)]
 
 mod call_plan;
+mod mem_shelf;
 mod mem_sink;
 mod mem_source;
+mod object_map;
 mod read_source;
+mod shelf;
 mod sink;
 mod source;
 mod trouble;
 mod write_sink;
 
+pub use mem_shelf::MemShelf;
 pub use mem_sink::MemSink;
 pub use mem_source::MemSource;
 pub use read_source::ReadSource;
+pub use shelf::Shelf;
 pub use sink::{Sink, write_all};
 pub use source::Source;
 pub use trouble::Trouble;
