@@ -1,0 +1,3 @@
+mod JoinedLaws
+mod PendingLaws
+pub mod SegmentsLaws
