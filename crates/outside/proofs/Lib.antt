@@ -1,3 +1,4 @@
 pub mod FaultLaws
 pub mod BytesLaws
 pub mod ObjectMapLaws
+pub mod ShelfLaws

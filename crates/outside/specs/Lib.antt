@@ -6,3 +6,4 @@ pub mod MemSink
 pub mod Shelf
 pub mod ObjectMap
 pub mod MemShelf
+pub mod ShelfSource

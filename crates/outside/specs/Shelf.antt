@@ -17,6 +17,10 @@ bytes_of objects name = unwrap_or (map.get objects name) []
 abbrev pub part_of : List ℕ → ℕ → ℕ → List ℕ
 part_of bytes at max = take max (drop at bytes)
 
+-- what is left of an object from a place on, where the objects are told
+abbrev pub left_of : Option Objects → List ℕ → ℕ → Option (List ℕ)
+left_of held name at = option_map (λ objects. drop at (bytes_of objects name)) held
+
 -- the told objects, with this one holding exactly these bytes
 abbrev pub with_object : Option Objects → List ℕ → List ℕ → Option Objects
 with_object held name bytes = option_map (λ objects. map.insert objects name bytes) held

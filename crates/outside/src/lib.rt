@@ -3,22 +3,26 @@
 #![tactic(auto)]
 
 mod call_plan;
+mod dir_shelf;
 mod mem_shelf;
 mod mem_sink;
 mod mem_source;
 mod object_map;
 mod read_source;
 mod shelf;
+mod shelf_source;
 mod sink;
 mod source;
 mod trouble;
 mod write_sink;
 
+pub use dir_shelf::DirShelf;
 pub use mem_shelf::MemShelf;
 pub use mem_sink::MemSink;
 pub use mem_source::MemSource;
 pub use read_source::ReadSource;
 pub use shelf::Shelf;
+pub use shelf_source::ShelfSource;
 pub use sink::{Sink, write_all};
 pub use source::Source;
 pub use trouble::Trouble;

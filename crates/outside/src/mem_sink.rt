@@ -1,9 +1,9 @@
 // A sink in memory.
-ghost use Rattle.std.specs.Prelude.{◌≡◌, ◌<◌, ◌↔◌, [], ◌++◌, Some, take, length, IfOk, OnOk, OnErr, IsTrue, IsErrOf};
+ghost use Rattle.std.specs.Prelude.{◌≡◌, ◌<◌, [], ◌++◌, Some, take, length, IfOk, OnOk, OnErr};
 ghost use Rattle.std.specs.Io.{WritesAtMost};
 ghost use Rattle.std.specs.Io.KnownBytes.{Appends};
 ghost use Rattle.outside.specs.Bytes.{AppendsFront};
-ghost use Rattle.outside.specs.CallPlan.{planned, fails_next, after_call};
+ghost use Rattle.outside.specs.CallPlan.{planned, GoesByPlan};
 ghost use Rattle.outside.specs.Faults.{HasCause};
 
 use crate::call_plan::CallPlan;
@@ -63,8 +63,7 @@ impl Sink for MemSink {
         ensures taken { IfOk result (λ n. n ≡ length bytes.now) }
         ensures added { OnOk result (self.new.written ≡ self.old.written ++ bytes.now) }
         ensures same { OnErr result (self.new.written ≡ self.old.written) }
-        ensures fault { IsErrOf result Trouble.Fault ↔ IsTrue (fails_next self.old.plan) }
-        ensures counted { self.new.plan ≡ after_call self.old.plan }
+        ensures plan { GoesByPlan self.old.plan self.new.plan result }
     {
         if self.plan.next_fails() {
             return Err(Trouble::Fault);

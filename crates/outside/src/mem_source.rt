@@ -1,7 +1,7 @@
 // A source over bytes in memory.
-ghost use Rattle.std.specs.Prelude.{◌≡◌, ◌≤◌, ◌↔◌, [], Some, take, drop, vec_len, length, IfOk, OnOk, OnErr, MatchResult, IsTrue, IsErrOf};
+ghost use Rattle.std.specs.Prelude.{◌≡◌, ◌≤◌, [], Some, take, drop, vec_len, length, IfOk, OnOk, OnErr, MatchResult};
 ghost use Rattle.std.specs.Io.KnownBytes.{Keeps, Consumes, IsAtEnd};
-ghost use Rattle.outside.specs.CallPlan.{planned, fails_next, after_call};
+ghost use Rattle.outside.specs.CallPlan.{planned, GoesByPlan};
 ghost use Rattle.outside.specs.Faults.{HasCause};
 
 use crate::call_plan::CallPlan;
@@ -64,8 +64,7 @@ impl Source for MemSource {
         ensures taken { IfOk result (λ bytes. bytes.items ≡ take max self.old.left) }
         ensures rest { OnOk result (self.new.left ≡ drop max self.old.left) }
         ensures same { OnErr result (self.new.left ≡ self.old.left) }
-        ensures fault { IsErrOf result Trouble.Fault ↔ IsTrue (fails_next self.old.plan) }
-        ensures counted { self.new.plan ≡ after_call self.old.plan }
+        ensures plan { GoesByPlan self.old.plan self.new.plan result }
     {
         if self.plan.next_fails() {
             return Err(Trouble::Fault);

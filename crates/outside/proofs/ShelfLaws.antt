@@ -1,0 +1,25 @@
+-- What reads of an object in order come to.
+use Rattle.std.proofs.Common.{◌≡◌, ℕ, ◌+◌, List, ◌++◌, length, take, drop, sym, ◌∙◌, ap, subst, Option, None, Some, IfSome, take-append-drop}
+use Rattle.std.proofs.Math.Seq.{drop-append_seam}
+use Rattle.std.proofs.lemmas.List.{drop-drop}
+use Rattle.std.specs.Io.KnownBytes.{Consumes}
+use Rattle.outside.specs.Shelf.{Objects, bytes_of, part_of, left_of}
+
+-- a part, and what follows it
+pub part_of-rest : (bytes part : List ℕ) (at max : ℕ) → part ≡ part_of bytes at max → drop at bytes ≡ part ++ drop (at + length part) bytes
+part_of-rest bytes part at max is =
+    let left = drop at bytes in
+    let split = sym (take-append-drop max left) ∙ ap (λ (l : List ℕ). l ++ drop max left) (sym is) in
+    let after = sym (drop-append_seam part (drop max left)) ∙ ap (drop (length part)) (sym split) ∙ drop-drop (length part) at bytes in
+    split ∙ ap (λ (l : List ℕ). part ++ l) after
+
+-- a read of an object takes the bytes that it gave from what is left of it
+pub left_of-read : (held new : Option Objects) (name part : List ℕ) (at max next : ℕ) → new ≡ held → next ≡ at + length part
+    → IfSome held (λ objects. part ≡ part_of (bytes_of objects name) at max) → Consumes (left_of held name at) (left_of new name next) part
+left_of-read held new name part at max next same place given =
+    subst (λ o. Consumes (left_of held name at) (left_of o name next) part) (sym same)
+    (subst (λ n. Consumes (left_of held name at) (left_of held name n) part) (sym place) (told held given))
+  where
+    told : (held : Option Objects) → IfSome held (λ objects. part ≡ part_of (bytes_of objects name) at max) → Consumes (left_of held name at) (left_of held name (at + length part)) part
+    told None given = tt
+    told (Some objects) given = part_of-rest (bytes_of objects name) part at max given

@@ -1,0 +1,139 @@
+// A shelf over the files of a folder: the trusted edge, of whose bytes no contract speaks.
+ghost use Rattle.std.specs.Prelude.{◌≡◌, ◌≤◌, Ok, Some, None, IfOk};
+ghost use Rattle.std.specs.Io.{ReadsAtMost};
+ghost use Rattle.outside.specs.Faults.{HasCause};
+
+use crate::{Shelf, Trouble};
+use std::alloc::Global;
+use std::fs::OpenOptions;
+use std::io::{ErrorKind, Write};
+use std::os::unix::fs::FileExt;
+use std::rt::Files;
+use std::{fs, io};
+
+/// A shelf over the files of one folder. An object is the file of its name. Each `Err` of std's is a fault. It
+/// tells no bytes and keeps no record, only its counts.
+///
+/// No name leads out of the folder. Names of the depot's objects are made of letters, digits and `-`. A file
+/// name is what the user wrote, of the bytes from `!` to `~`: it stands behind the folder and a `/`, so a leading
+/// `/` means the folder, and one that has `..` among its parts is a fault before any file is touched.
+#[derive(Drop)]
+pub struct DirShelf<'a, R: Files + Sync> {
+    rt: &'a R,
+    folder: String,
+    reads: u64,
+    faults: u64,
+}
+
+impl<'a, R: Files + Sync> DirShelf<'a, R> {
+    /// A shelf over the files of this folder, which need not be there yet. No file is touched.
+    pub fn new(rt: &'a R, folder: String) -> DirShelf<'a, R> {
+        DirShelf {
+            rt,
+            folder,
+            reads: 0,
+            faults: 0,
+        }
+    }
+}
+
+impl<R: Files + Sync> Shelf for DirShelf<'_, R>
+where
+    R::File: FileExt,
+{
+    ghost held = { λ _. None };
+
+    ghost gave = { λ _. None };
+
+    ghost wrote = { λ _. None };
+
+    ghost erased = { λ _. None };
+
+    ghost reads = { λ s. s.reads };
+
+    ghost faults = { λ s. s.faults };
+
+    fn has(&mut self, name: &str) -> Result<bool, Trouble> {
+        let path = path_of(&mut self.faults, &self.folder, name)?;
+        counted(&mut self.faults, fs::exists(self.rt, path.as_str()))
+    }
+
+    fn read(&mut self, alloc: Global, name: &str, at: u64, max: usize) -> Result<Vec<u8>, Trouble> {
+        self.reads = self.reads.wrapping_add(1);
+        let path = path_of(&mut self.faults, &self.folder, name)?;
+        let mut bytes = vec![in alloc; 0; max]?;
+        let given = counted(&mut self.faults, read_file(self.rt, &path, at, &mut bytes))?;
+        bytes.truncate(given);
+        Ok(bytes)
+    }
+
+    fn create(&mut self, name: &str, bytes: &[u8]) -> Result<(), Trouble> {
+        let path = path_of(&mut self.faults, &self.folder, name)?;
+        counted(&mut self.faults, fs::write(self.rt, path.as_str(), bytes))
+    }
+
+    fn append(&mut self, name: &str, bytes: &[u8]) -> Result<(), Trouble> {
+        let path = path_of(&mut self.faults, &self.folder, name)?;
+        counted(&mut self.faults, append_file(self.rt, &path, bytes))
+    }
+
+    fn erase(&mut self, name: &str) -> Result<(), Trouble> {
+        let path = path_of(&mut self.faults, &self.folder, name)?;
+        counted(&mut self.faults, remove_file(self.rt, &path))
+    }
+}
+
+// Passes on what std answered, and counts an `Err`.
+fn counted<T>(faults: &mut u64, answer: io::Result<T>) -> Result<T, Trouble>
+    ensures value { IfOk result (λ value. answer ≡ Ok value) }
+    ensures cause { HasCause faults.old faults.new result }
+{
+    match answer {
+        Ok(value) => Ok(value),
+        Err(_) => {
+            *faults = faults.saturating_add(1);
+            Err(Trouble::Fault)
+        }
+    }
+}
+
+// The path of the file of this name. A name that has `..` among its parts is a fault.
+fn path_of(faults: &mut u64, folder: &String, name: &str) -> Result<String, Trouble>
+    ensures { HasCause faults.old faults.new result }
+{
+    if name.split('/').any(|part| part == "..") {
+        *faults = faults.saturating_add(1);
+        return Err(Trouble::Fault);
+    }
+    let mut path = folder.clone()?;
+    path.push('/')?;
+    path.push_str(name)?;
+    Ok(path)
+}
+
+// One open and one read at a place. A file that is not there gives no bytes.
+fn read_file<R: Files>(rt: &R, path: &str, at: u64, bytes: &mut [u8]) -> io::Result<usize>
+where
+    R::File: FileExt,
+    ensures { ReadsAtMost result bytes.new }
+{
+    match fs::open(rt, path) {
+        Ok(file) => file.read_at(bytes, at),
+        Err(e) if e.kind() == ErrorKind::NotFound => Ok(0),
+        Err(e) => Err(e),
+    }
+}
+
+// One open for appending, which makes the file where it is not there.
+fn append_file(rt: &impl Files, path: &str, bytes: &[u8]) -> io::Result<()> {
+    let mut file = OpenOptions::new().append(true).create(true).open(rt, path)?;
+    file.write_all(bytes)
+}
+
+// That the file is not there is no cause of an `Err`.
+fn remove_file(rt: &impl Files, path: &str) -> io::Result<()> {
+    match fs::remove_file(rt, path) {
+        Err(e) if e.kind() == ErrorKind::NotFound => Ok(()),
+        answer => answer,
+    }
+}

@@ -1,0 +1,76 @@
+// A source of one object of a shelf.
+ghost use Rattle.std.specs.Prelude.{◌≡◌, ◌≤◌, ℕ, List, [], true, Some, vec_len, IfOk, MatchResult, IsTrue};
+ghost use Rattle.std.specs.Io.KnownBytes.{Keeps, Consumes, IsAtEnd};
+ghost use Rattle.outside.specs.Faults.{HasCause};
+ghost use Rattle.outside.specs.Shelf.{left_of};
+
+use crate::{Shelf, Source, Trouble};
+use std::alloc::Global;
+
+/// A source of one object of a shelf, from its first byte on. It tells what is left of the object where the shelf
+/// tells its objects, and its count of faults is the shelf's. Each read makes one read of the shelf, until one
+/// gave no bytes; then it makes none. It changes no object. Past the place 2^64 - 1 it answers `Memory`.
+#[derive(Drop)]
+pub struct ShelfSource<'a, F: Shelf> {
+    files: &'a mut F,
+    name: &'a str,
+    at: u64,
+    has_ended: bool,
+    ghost at_end: { has_ended ≡ true → (bytes : List ℕ) → left_of (F.held files.now) name.now at ≡ Some bytes → bytes ≡ [] },
+}
+
+impl<'a, F: Shelf> ShelfSource<'a, F> {
+    ghost use Rattle.outside.specs.ShelfSource.{files_of};
+
+    /// A source of the object of this name. When it ends, `files` is as the source last left it.
+    pub fn new(files: &'a mut F, name: &'a str) -> ShelfSource<'a, F>
+        ensures same_reference { (files_of result).ghost_name ≡ files.entry.ghost_name }
+        ensures files { (files_of result).now ≡ files.old }
+        ensures left { ⟦<ShelfSource<'a, F> as Source>⟧.left result ≡ left_of (F.held files.old) name.now 0 }
+    {
+        ShelfSource {
+            files,
+            name,
+            at: 0,
+            has_ended: false,
+        }
+    }
+}
+
+impl<F: Shelf> Source for ShelfSource<'_, F> {
+    ghost use Rattle.outside.specs.ShelfSource.{files_of, source_left, source_ended};
+
+    ghost left = { source_left F.held };
+
+    ghost ended = { source_ended };
+
+    ghost faults = { λ s. F.faults s.files.now };
+
+    fn read(&mut self, alloc: Global, max: usize) -> Result<Vec<u8>, Trouble>
+        requires { 1 ≤ max }
+        ensures most { IfOk result (λ bytes. vec_len bytes ≤ max) }
+        ensures bytes { MatchResult result
+            (λ bytes. Consumes (source_left F.held self.old) (source_left F.held self.new) bytes.items)
+            (λ _. Keeps (source_left F.held self.old) (source_left F.held self.new)) }
+        ensures end { IfOk result (λ bytes. bytes.items ≡ [] → source_ended self.new × IsAtEnd (source_left F.held self.new)) }
+        ensures stays { source_ended self.old → source_ended self.new × IfOk result (λ bytes. bytes.items ≡ []) }
+        ensures cause { HasCause (F.faults (files_of self.old).now) (F.faults (files_of self.new).now) result }
+
+        // The same shelf, on which nothing but reads was done.
+        ensures same_reference { (files_of self.new).ghost_name ≡ (files_of self.old).ghost_name }
+        ensures held { F.held (files_of self.new).now ≡ F.held (files_of self.old).now }
+        ensures wrote { F.wrote (files_of self.new).now ≡ F.wrote (files_of self.old).now }
+        ensures erased { F.erased (files_of self.new).now ≡ F.erased (files_of self.old).now }
+    {
+        if self.has_ended {
+            return Ok(Vec::new(alloc));
+        }
+        let bytes = self.files.read(alloc, self.name, self.at, max)?;
+        let Some(at) = self.at.checked_add(bytes.len() as u64) else {
+            return Err(Trouble::Memory);
+        };
+        self.at = at;
+        self.has_ended = bytes.is_empty();
+        Ok(bytes)
+    }
+}
