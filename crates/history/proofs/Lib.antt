@@ -1,0 +1,4 @@
+pub mod Names
+pub mod Loop
+pub mod Fields
+pub mod Entries

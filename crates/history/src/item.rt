@@ -1,0 +1,82 @@
+// What the lists of an entry are made of.
+ghost use Rattle.std.specs.Prelude.{◌≡◌, ◌++◌, OnOk};
+ghost use Rattle.history.specs.EntryText.{digest_text, manifest_text, container_text, object_text};
+ghost use Rattle.history.specs.Reading.{Gives, digest_at, manifest_at, container_at, object_at};
+
+use crate::fault::ReadError;
+use crate::reading::{container_at, digest_at, manifest_at, object_at};
+use crate::writing::{put_container, put_digest, put_manifest, put_object};
+use ss_base::{ContainerId, ManifestId, Name, Object};
+use std::alloc::AllocError;
+
+/// An item of a list, as bytes.
+pub(crate) trait Item: Drop {
+    ghost use Rattle.std.specs.Prelude.{List, ℕ};
+    ghost use Rattle.history.specs.Reading.{Reader};
+
+    ghost item_text: { Self → List ℕ };
+
+    ghost item_at: { Reader Self };
+
+    fn read(bytes: &[u8]) -> Result<(Self, &[u8]), ReadError>
+        ensures { Gives (λ x. (x.0, x.1.now)) result (item_at bytes.now) };
+
+    fn put(&self, out: &mut Vec<u8>) -> Result<(), AllocError>
+        ensures { OnOk result (out.new.items ≡ out.old.items ++ item_text self.now) };
+}
+
+impl Item for Name {
+    ghost item_text = { digest_text };
+
+    ghost item_at = { digest_at };
+
+    fn read(bytes: &[u8]) -> Result<(Self, &[u8]), ReadError> {
+        digest_at(bytes)
+    }
+
+    fn put(&self, out: &mut Vec<u8>) -> Result<(), AllocError> {
+        put_digest(out, self)
+    }
+}
+
+impl Item for ManifestId {
+    ghost item_text = { manifest_text };
+
+    ghost item_at = { manifest_at };
+
+    fn read(bytes: &[u8]) -> Result<(Self, &[u8]), ReadError> {
+        manifest_at(bytes)
+    }
+
+    fn put(&self, out: &mut Vec<u8>) -> Result<(), AllocError> {
+        put_manifest(out, self)
+    }
+}
+
+impl Item for ContainerId {
+    ghost item_text = { container_text };
+
+    ghost item_at = { container_at };
+
+    fn read(bytes: &[u8]) -> Result<(Self, &[u8]), ReadError> {
+        container_at(bytes)
+    }
+
+    fn put(&self, out: &mut Vec<u8>) -> Result<(), AllocError> {
+        put_container(out, self)
+    }
+}
+
+impl Item for Object {
+    ghost item_text = { object_text };
+
+    ghost item_at = { object_at };
+
+    fn read(bytes: &[u8]) -> Result<(Self, &[u8]), ReadError> {
+        object_at(bytes)
+    }
+
+    fn put(&self, out: &mut Vec<u8>) -> Result<(), AllocError> {
+        put_object(out, self)
+    }
+}

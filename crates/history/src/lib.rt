@@ -1,0 +1,18 @@
+//! The history of a store.
+#![tactic(auto)]
+
+mod decoding;
+mod encoding;
+mod entry;
+mod fault;
+mod item;
+mod items;
+mod laws;
+mod reading;
+mod writing;
+
+pub use decoding::decode_entry;
+pub use encoding::encode_entry;
+pub use entry::{Entry, Limits, Point, Seen, Totals};
+pub use items::Items;
+pub use laws::one_reading;

@@ -1,0 +1,171 @@
+// Writing the fields of an entry: each function puts one at the end.
+ghost use Rattle.std.specs.Prelude.{◌≡◌, ◌<◌, ◌≤◌, ◌^◌, ◌++◌, ◌∷◌, [], length, OnOk};
+ghost use Rattle.std.specs.List.{flat_map};
+ghost use Rattle.std.specs.Int.{w16, w32, w64};
+ghost use Rattle.history.specs.EntryText.{number_text, byte_text, digest_text, stream_name_text, manifest_text, container_text, object_text, reply_text, list_text, seen_text, totals_text};
+
+use crate::item::Item;
+use crate::items::Items;
+use crate::{Seen, Totals};
+use ss_base::{ContainerId, ManifestId, Name, Object, StreamName};
+use std::alloc::AllocError;
+
+// Writes fields one after another, a line for each: where it stands, and the function that writes it.
+macro_rules! put_fields {
+    ($out:ident; $($field:expr => $put:ident;)+) => {{
+        $($put($out, $field)?;)+
+        Ok(())
+    }};
+}
+
+pub(crate) use put_fields;
+
+pub(crate) fn put_byte(out: &mut Vec<u8>, byte: u8) -> Result<(), AllocError>
+    ensures { OnOk result (out.new.items ≡ out.old.items ++ byte ∷ []) }
+{
+    out.push(byte)?;
+    Ok(())
+}
+
+#[tactic(auto, unfolding(crate::specs::EntryText::number_text))]
+fn put_u16(out: &mut Vec<u8>, n: u16) -> Result<(), AllocError>
+    ensures { OnOk result (out.new.items ≡ out.old.items ++ number_text w16 n) }
+{
+    out.extend_from_slice(&n.to_be_bytes())
+}
+
+#[tactic(auto, unfolding(crate::specs::EntryText::number_text))]
+pub(crate) fn put_u32(out: &mut Vec<u8>, n: &u32) -> Result<(), AllocError>
+    ensures { OnOk result (out.new.items ≡ out.old.items ++ number_text w32 n.now) }
+{
+    out.extend_from_slice(&n.to_be_bytes())
+}
+
+#[tactic(auto, unfolding(crate::specs::EntryText::number_text))]
+fn put_u64(out: &mut Vec<u8>, n: &u64) -> Result<(), AllocError>
+    ensures { OnOk result (out.new.items ≡ out.old.items ++ number_text w64 n.now) }
+{
+    out.extend_from_slice(&n.to_be_bytes())
+}
+
+pub(crate) fn put_digest(out: &mut Vec<u8>, digest: &Name) -> Result<(), AllocError>
+    ensures { OnOk result (out.new.items ≡ out.old.items ++ digest_text digest.now) }
+{
+    out.extend_from_slice(&digest.0)
+}
+
+pub(crate) fn put_stream_name(out: &mut Vec<u8>, name: &StreamName) -> Result<(), AllocError>
+    ensures { OnOk result (out.new.items ≡ out.old.items ++ stream_name_text name.now) }
+{
+    let bytes = name.bytes();
+    out.push(bytes.len() as u8)?;
+    out.extend_from_slice(bytes)
+}
+
+pub(crate) fn put_manifest(out: &mut Vec<u8>, id: &ManifestId) -> Result<(), AllocError>
+    ensures { OnOk result (out.new.items ≡ out.old.items ++ manifest_text id.now) }
+{
+    put_fields!(out;
+        &id.session => put_u32;
+        &id.seq => put_u32;
+    )
+}
+
+pub(crate) fn put_container(out: &mut Vec<u8>, id: &ContainerId) -> Result<(), AllocError>
+    ensures { OnOk result (out.new.items ≡ out.old.items ++ container_text id.now) }
+{
+    put_fields!(out;
+        &id.session => put_u32;
+        &id.ordinal => put_u32;
+    )
+}
+
+pub(crate) fn put_object(out: &mut Vec<u8>, object: &Object) -> Result<(), AllocError>
+    ensures { OnOk result (out.new.items ≡ out.old.items ++ object_text object.now) }
+{
+    match object {
+        Object::Container(id) => put_fields!(out;
+            1 => put_byte;
+            id => put_container;
+        ),
+        Object::Manifest(id) => put_fields!(out;
+            2 => put_byte;
+            id => put_manifest;
+        ),
+    }
+}
+
+pub(crate) fn put_session_reply(out: &mut Vec<u8>, session: &Option<u32>) -> Result<(), AllocError>
+    ensures { OnOk result (out.new.items ≡ out.old.items ++ reply_text (number_text w32) session.now) }
+{
+    match session {
+        None => put_byte(out, 0),
+        Some(session) => put_fields!(out;
+            1 => put_byte;
+            session => put_u32;
+        ),
+    }
+}
+
+fn put_seen(out: &mut Vec<u8>, seen: &Seen) -> Result<(), AllocError>
+    ensures { OnOk result (out.new.items ≡ out.old.items ++ seen_text seen.now) }
+{
+    put_fields!(out;
+        &seen.reader => put_u32;
+        &seen.session => put_u32;
+    )
+}
+
+pub(crate) fn put_seen_reply(out: &mut Vec<u8>, seen: &Option<Seen>) -> Result<(), AllocError>
+    ensures { OnOk result (out.new.items ≡ out.old.items ++ reply_text seen_text seen.now) }
+{
+    match seen {
+        None => put_byte(out, 0),
+        Some(seen) => put_fields!(out;
+            1 => put_byte;
+            seen => put_seen;
+        ),
+    }
+}
+
+pub(crate) fn put_totals(out: &mut Vec<u8>, totals: &Totals) -> Result<(), AllocError>
+    ensures { OnOk result (out.new.items ≡ out.old.items ++ totals_text totals.now) }
+{
+    put_fields!(out;
+        &totals.streams => put_u64;
+        &totals.bytes => put_u64;
+        &totals.fresh => put_u64;
+        &totals.containers => put_u64;
+        &totals.reclaimed => put_u64;
+        &totals.entries => put_u64;
+    )
+}
+
+fn put_items<T: Item>(out: &mut Vec<u8>, items: &[T]) -> Result<(), AllocError>
+    ensures { OnOk result (out.new.items ≡ out.old.items ++ flat_map T.item_text items.now) }
+{
+    for item in items {
+        item.put(out)?;
+    }
+    Ok(())
+}
+
+/// A list whose length has two bytes.
+pub(crate) fn put_long_list<T: Item>(out: &mut Vec<u8>, items: &Items<T>) -> Result<(), AllocError>
+    requires { length items.now < 2 ^ 16 }
+    ensures { OnOk result (out.new.items ≡ out.old.items ++ list_text (number_text w16) T.item_text items.now) }
+{
+    let items = items.as_slice();
+    put_u16(out, items.len() as u16)?;
+    put_items(out, items)
+}
+
+/// A list whose length has one byte.
+pub(crate) fn put_short_list<T: Item>(out: &mut Vec<u8>, items: &Items<T>) -> Result<(), AllocError>
+    requires { length items.now < 2 ^ 8 }
+    ensures { OnOk result (out.new.items ≡ out.old.items ++ list_text byte_text T.item_text items.now) }
+{
+    let items = items.as_slice();
+    put_byte(out, items.len() as u8)?;
+    put_items(out, items)
+}
