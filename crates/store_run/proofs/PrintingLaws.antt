@@ -1,9 +1,7 @@
 -- How a text that is printed line by line goes on.
-use Rattle.std.proofs.Common.{◌≡◌, ℕ, ◌+◌, ◌<◌, ◌≤◌, List, [], ◌++◌, length, get_or, drop, map, Option, refl, sym, ap, ◌∙◌, subst, append_assoc}
-use Rattle.std.proofs.lemmas.List.{append-nil, drop_all}
+use Rattle.std.proofs.Common.{◌≡◌, ℕ, List, [], ◌++◌, Option, refl, sym, ap, ◌∙◌, subst, append_assoc}
+use Rattle.std.proofs.lemmas.List.{append-nil}
 use Rattle.std.specs.Io.KnownBytes.{Appends}
-use Rattle.std.specs.List.{flat_map}
-use Rattle.store_run.proofs.LinesLaws.{flat_map-drop}
 use Rattle.outside.specs.Bytes.{AppendsFront}
 use Rattle.outside.proofs.BytesLaws.{Appends-none, Appends-then, AppendsFront-then}
 use Rattle.store_run.specs.Printing.{Moves, IsUnderWay}
@@ -40,18 +38,9 @@ under_way-cut_line old new now waiting line rest all way written =
     (record { done = way.done; written = way.written; parts = way.parts ∙ ap (λ (l : List ℕ). way.done ++ l) (sym (append_assoc waiting line rest)) })
     written
 
--- the next line is that of item i
-pub under_way-item : {A B : Type 0} (f : B → List ℕ) (view : A → B) (xs : List A) (i : ℕ) (x : A) (line : List ℕ) (old new : Option (List ℕ)) (waiting all : List ℕ) → i < length xs → x ≡ get_or xs i x → line ≡ f (view x)
-    → IsUnderWay old new waiting (flat_map f (map view (drop i xs))) all → IsUnderWay old new waiting (line ++ flat_map f (map view (drop (i + 1) xs))) all
-under_way-item f view xs i x line old new waiting all lt is text way =
-    subst (λ (rest : List ℕ). IsUnderWay old new waiting rest all)
-    (flat_map-drop f view xs i x lt is ∙ ap (λ (l : List ℕ). l ++ flat_map f (map view (drop (i + 1) xs))) (sym text)) way
-
--- no item is left
-pub under_way-items : {A B : Type 0} (f : B → List ℕ) (view : A → B) (xs : List A) (i : ℕ) (old new : Option (List ℕ)) (waiting all : List ℕ) → length xs ≤ i
-    → IsUnderWay old new waiting (flat_map f (map view (drop i xs))) all → IsUnderWay old new waiting [] all
-under_way-items f view xs i old new waiting all le way =
-    subst (λ (rest : List ℕ). IsUnderWay old new waiting rest all) (ap (λ ys. flat_map f (map view ys)) (drop_all i xs le)) way
+-- the rest in other words
+pub under_way-rest : (old new : Option (List ℕ)) (waiting rest rest' all : List ℕ) → rest ≡ rest' → IsUnderWay old new waiting rest all → IsUnderWay old new waiting rest' all
+under_way-rest old new waiting rest rest' all is way = subst (λ (rest : List ℕ). IsUnderWay old new waiting rest all) is way
 
 -- the last write
 pub under_way-end : (old new now : Option (List ℕ)) (waiting all : List ℕ) → IsUnderWay old new waiting [] all → Appends new now waiting → Appends old now all

@@ -11,5 +11,5 @@ unfoldable pub piece_line : Piece → List ℕ
 piece_line p = encode_lower p.name.0 ++ 32 ∷ [] ++ decimal p.len ++ 10 ∷ []
 
 -- the lines of a list of chunks
-unfoldable pub chunk_lines : List (List ℕ) → List ℕ
+abbrev pub chunk_lines : List (List ℕ) → List ℕ
 chunk_lines chunks = flat_map (λ chunk. piece_line (piece chunk)) chunks

@@ -1,6 +1,7 @@
 //! What a run of the program does: its words are read, its command is carried out, and its answer is a status.
 #![tactic(auto)]
 
+mod chunk_lines;
 mod command;
 mod names;
 mod printing;

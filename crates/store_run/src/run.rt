@@ -12,7 +12,8 @@ ghost use Rattle.store_run.specs.Output.{output_of};
 ghost use Rattle.store_run.specs.Run.{max_stream, IsDone, IsStatus, PrintsFront};
 
 use crate::command::{Command, command_of};
-use crate::names::print_chunks;
+use crate::names::NameLines;
+use crate::printing::print_chunks;
 use crate::source::read_all;
 use crate::stop::Stop;
 use outside::{Sink, Source, Trouble, write_all};
@@ -65,7 +66,7 @@ fn print_output<O: Sink>(alloc: Global, command: Command, bytes: &[u8], out: &mu
 {
     let Command::Names(profile) = command;
     match cut_all(alloc, profile, bytes) {
-        Ok(chunks) => match print_chunks(alloc, &chunks, out) {
+        Ok(chunks) => match print_chunks(alloc, &mut NameLines, &chunks, out) {
             Ok(()) => 0,
             Err(Trouble::Memory) => 8,
             Err(Trouble::Fault) => 9,

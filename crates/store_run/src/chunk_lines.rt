@@ -1,0 +1,26 @@
+// The lines that a command prints of a stream's chunks.
+ghost use Rattle.std.specs.Prelude.{◌≡◌, ◌≤◌, ◌++◌, ℕ, List, [], ◌∷◌, length, IfOk, string_bytes};
+
+use ss_base::Memory;
+use std::alloc::Global;
+
+/// What makes lines of a stream's chunks while they come.
+pub trait ChunkLines {
+    /// The lines of the stream whose further chunks are these.
+    ghost text: { Self → List (List ℕ) → List ℕ };
+
+    /// The greatest length of a chunk.
+    ghost most: { Self → ℕ };
+
+    /// Takes the next chunk, and gives the lines that are whole with it, perhaps none.
+    fn add(&mut self, alloc: Global, chunk: &[u8]) -> Result<String, Memory>
+        requires some { 1 ≤ length chunk.now }
+        requires fits { length chunk.now ≤ most self.old }
+        ensures lines { IfOk result (λ lines. (later : List (List ℕ)) →
+            text self.old (chunk.now ∷ later) ≡ string_bytes lines ++ text self.new later) }
+        ensures most { most self.new ≡ most self.old };
+
+    /// The lines that are left at the stream's end.
+    fn rest(&mut self, alloc: Global) -> Result<String, Memory>
+        ensures { IfOk result (λ lines. string_bytes lines ≡ text self.old []) };
+}
