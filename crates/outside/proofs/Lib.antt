@@ -1,4 +1,5 @@
 pub mod FaultLaws
 pub mod BytesLaws
-pub mod ObjectMapLaws
+pub mod ObjectLaws
+mod ObjectMapLaws
 pub mod ShelfLaws

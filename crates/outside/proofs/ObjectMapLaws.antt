@@ -1,10 +1,8 @@
 -- A tree of objects by their names, as the finite map that it is seen as.
-use Rattle.std.proofs.Common.{◌≡◌, refl, sym, ◌∙◌, ap, List, [], ◌∷◌, ◌++◌, ℕ, map, Bool, true, false, cond, Option, None, Some, Vec, String, string_bytes}
+use Rattle.std.proofs.Common.{◌≡◌, refl, sym, ◌∙◌, ap, List, [], ◌∷◌, ℕ, map, Bool, true, false, cond, Option, None, Some, Vec, String}
 use Rattle.std.specs.declared.alloc.Global.{Global}
 use Rattle.std.specs.Option.{option_map}
-use Rattle.std.specs.Ordering.{nat_cmp, eq_by_cmp, is_eq}
-use Rattle.std.specs.declared.cmp.Ordering.{Ordering}
-use Rattle.std.specs.declared.cmp.Ordering.TheVariants.{Less, Equal, Greater}
+use Rattle.std.specs.Ordering.{nat_cmp, eq_by_cmp}
 use Rattle.std.specs.String.{string_cmp}
 use Rattle.std.specs.Str.{bytes_eq}
 use Rattle.std.specs.Cmp.Lexicographic.{slice_cmp}
@@ -14,7 +12,7 @@ use Rattle.std.specs.FinMap as map
 use Rattle.std.proofs.lemmas.Cmp.{nat_list_cmp_total, eq_by_cmp_equiv}
 use Rattle.std.proofs.lemmas.Map.Lookups.{exact_bytes}
 use Rattle.std.proofs.lemmas.Map.Text.{text_cmp, btree_map_updates_text, is_eq-slice_cmp}
-use Rattle.outside.specs.Shelf.{Objects, bytes_of}
+use Rattle.outside.specs.Shelf.{Objects}
 use Rattle.outside.specs.ObjectMap.{Tree, entry_bytes, objects_of}
 
 -- the bytes that a vector holds, where it is there
@@ -59,20 +57,6 @@ objects_of-set name m n w updates = map.same_map nat_list_cmp_total exact_bytes 
 pub objects_of-removed : (name : List ℕ) (m n : Tree) → tree.UpdatesBy string_cmp (text_cmp name) m n None → objects_of n ≡ map.remove (objects_of m) name
 objects_of-removed name m n updates = map.same_map nat_list_cmp_total exact_bytes _ _ (λ q.
     after_update name m n None updates q ∙ sym (map.get-remove nat_list_cmp_total (objects_of m) name q))
-
-is_equal : (r : Ordering) → is_eq r ≡ true → r ≡ Equal
-is_equal Less is = (cc)
-is_equal Equal is = refl
-is_equal Greater is = (cc)
-
--- what is there already changes nothing
-pub insert_same : (objects : Objects) (name bytes : List ℕ) → map.get objects name ≡ Some bytes → map.insert objects name bytes ≡ objects
-insert_same objects name bytes there = map.same_map nat_list_cmp_total exact_bytes _ _ (λ q.
-    map.get-insert nat_list_cmp_total objects name bytes q ∙ at_name q (eq_by_cmp (slice_cmp nat_cmp) q name) refl)
-  where
-    at_name : (q : List ℕ) (b : Bool) → eq_by_cmp (slice_cmp nat_cmp) q name ≡ b → cond b (Some bytes) (map.get objects q) ≡ map.get objects q
-    at_name q true same = sym there ∙ ap (map.get objects) (sym (exact_bytes q name (is_equal (slice_cmp nat_cmp q name) same)))
-    at_name q false other = refl
 
 -- what a look-up in the tree found is under that name in the finite map
 pub found_in : (objects : Objects) (m : Tree) (name : List ℕ) (found : Option (Vec ℕ Global)) → objects_of m ≡ objects → found ≡ tree.get_by_text m name → items_of found ≡ map.get objects name

@@ -1,7 +1,7 @@
 // A shelf over the files of a folder: the trusted edge, of whose bytes no contract speaks.
 ghost use Rattle.std.specs.Prelude.{◌≡◌, ◌≤◌, Ok, Some, None, IfOk};
 ghost use Rattle.std.specs.Io.{ReadsAtMost};
-ghost use Rattle.outside.specs.Faults.{HasCause};
+ghost use Rattle.outside.specs.Faults.{Rose, HasCause};
 
 use crate::{Shelf, Trouble};
 use std::alloc::Global;
@@ -83,6 +83,16 @@ where
     }
 }
 
+// One more fault.
+fn fault(faults: &mut u64) -> Trouble
+    ensures fault { result ≡ Trouble.Fault }
+    ensures later { faults.old ≤ faults.new }
+    ensures rose { Rose faults.old faults.new }
+{
+    *faults = faults.saturating_add(1);
+    Trouble::Fault
+}
+
 // Passes on what std answered, and counts an `Err`.
 fn counted<T>(faults: &mut u64, answer: io::Result<T>) -> Result<T, Trouble>
     ensures value { IfOk result (λ value. answer ≡ Ok value) }
@@ -90,10 +100,7 @@ fn counted<T>(faults: &mut u64, answer: io::Result<T>) -> Result<T, Trouble>
 {
     match answer {
         Ok(value) => Ok(value),
-        Err(_) => {
-            *faults = faults.saturating_add(1);
-            Err(Trouble::Fault)
-        }
+        Err(_) => Err(fault(faults)),
     }
 }
 
@@ -102,8 +109,7 @@ fn path_of(faults: &mut u64, folder: &String, name: &str) -> Result<String, Trou
     ensures { HasCause faults.old faults.new result }
 {
     if name.split('/').any(|part| part == "..") {
-        *faults = faults.saturating_add(1);
-        return Err(Trouble::Fault);
+        return Err(fault(faults));
     }
     let mut path = folder.clone()?;
     path.push('/')?;

@@ -2,7 +2,8 @@ use Rattle.std.proofs.Common.{sym, ◌∙◌, ap, rules, Some, None, ◌++◌, [
 use Rattle.std.specs.FinMap as map
 use Rattle.std.proofs.lemmas.Result.{err_from_is_err_and, IfOk-equal}
 use Rattle.outside.specs.ObjectMap.{objects_of}
-use Rattle.outside.proofs.ObjectMapLaws.{objects_of-set, insert_same, found_in}
+use Rattle.outside.proofs.ObjectLaws.{insert_same}
+use Rattle.outside.proofs.ObjectMapLaws.{objects_of-set, found_in}
 use Rattle.outside.proofs.object_map.ObjectMap.add.Goals as goal
 
 pub returns-in_err-extend_from_slice-in-Some-clause-err : goal.returns-in_err-extend_from_slice-in-Some-clause-err

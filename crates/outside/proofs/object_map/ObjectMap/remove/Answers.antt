@@ -1,4 +1,4 @@
-use Rattle.std.proofs.Common.{sym, ◌∙◌, ap}
+use Rattle.std.proofs.Common.{◌∙◌, ap}
 use Rattle.std.specs.FinMap as map
 use Rattle.outside.proofs.ObjectMapLaws.{objects_of-removed}
 use Rattle.outside.proofs.object_map.ObjectMap.remove.Goals as goal
