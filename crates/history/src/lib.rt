@@ -16,3 +16,6 @@ pub use encoding::encode_entry;
 pub use entry::{Entry, Limits, Point, Seen, Totals};
 pub use items::Items;
 pub use laws::one_reading;
+
+#[cfg(test)]
+mod tests;
