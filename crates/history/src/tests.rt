@@ -1,3 +1,4 @@
+ghost use Rattle.std.specs.Prelude.{IfOk};
 ghost use Rattle.history.specs.Bounds.{PointIsWithinBounds};
 
 use super::*;
@@ -17,376 +18,378 @@ type Row = (
     bool,
 );
 
-const ROWS: [Row; 53] = [
-    ("begin, no reply", "00000007 01 01 61 00", "", 0, "", true),
-    (
-        "begin, least",
-        "00000007 01 01 61 01 00000000",
-        "",
-        0,
-        "",
-        true,
-    ),
-    (
-        "begin, greatest",
-        "ffffffff 01 40",
-        "7a",
-        64,
-        "01 ffffffff",
-        true,
-    ),
-    (
-        "begin, a name of 0 bytes",
-        "00000007 01 00 00",
-        "",
-        0,
-        "",
-        false,
-    ),
-    (
-        "begin, a name of 65 bytes",
-        "00000007 01 41",
-        "7a",
-        65,
-        "00",
-        false,
-    ),
-    (
-        "begin, a name with a space",
-        "00000007 01 03 612062 00",
-        "",
-        0,
-        "",
-        false,
-    ),
-    (
-        "begin, a reply of 2",
-        "00000007 01 01 61 02 00000000",
-        "",
-        0,
-        "",
-        false,
-    ),
-    ("delete, no reply", "00000007 06 01 61 00", "", 0, "", true),
-    (
-        "delete, least",
-        "00000007 06 01 61 01 00000000",
-        "",
-        0,
-        "",
-        true,
-    ),
-    (
-        "delete, greatest",
-        "ffffffff 06 40",
-        "7a",
-        64,
-        "01 ffffffff",
-        true,
-    ),
-    (
-        "delete, a name of 0 bytes",
-        "00000007 06 00 00",
-        "",
-        0,
-        "",
-        false,
-    ),
-    (
-        "delete, a name of 65 bytes",
-        "00000007 06 41",
-        "7a",
-        65,
-        "00",
-        false,
-    ),
-    (
-        "delete, a name with a space",
-        "00000007 06 03 612062 00",
-        "",
-        0,
-        "",
-        false,
-    ),
-    (
-        "delete, a reply of 2",
-        "00000007 06 01 61 02 00000000",
-        "",
-        0,
-        "",
-        false,
-    ),
-    ("look, no reply", "00000007 07 01 61 00", "", 0, "", true),
-    (
-        "look, least",
-        "00000007 07 01 61 01 00000000 00000000",
-        "",
-        0,
-        "",
-        true,
-    ),
-    (
-        "look, greatest",
-        "ffffffff 07 40",
-        "7a",
-        64,
-        "01 ffffffff ffffffff",
-        true,
-    ),
-    (
-        "look, a name of 0 bytes",
-        "00000007 07 00 00",
-        "",
-        0,
-        "",
-        false,
-    ),
-    (
-        "look, a name of 65 bytes",
-        "00000007 07 41",
-        "7a",
-        65,
-        "00",
-        false,
-    ),
-    (
-        "look, a name with a space",
-        "00000007 07 03 612062 00",
-        "",
-        0,
-        "",
-        false,
-    ),
-    (
-        "look, a reply of 2",
-        "00000007 07 01 61 02 00000000 00000000",
-        "",
-        0,
-        "",
-        false,
-    ),
-    (
-        "choose, least",
-        "00000007 02 00000000 0000 00",
-        "",
-        0,
-        "",
-        true,
-    ),
-    (
-        "choose, two hooks and a champion",
-        "00000007 02 00000001 0002",
-        "abababababababababababababababababababababababababababababababab",
-        2,
-        "01 00000003 00000004",
-        true,
-    ),
-    (
-        "choose, greatest",
-        "00000007 02 ffffffff 1000",
-        "ffffffffffffffffffffffffffffffffffffffffffffffffffffffffffffffff",
-        4096,
-        "00",
-        true,
-    ),
-    (
-        "choose, 4097 hooks",
-        "00000007 02 ffffffff 1001",
-        "ffffffffffffffffffffffffffffffffffffffffffffffffffffffffffffffff",
-        4097,
-        "00",
-        false,
-    ),
-    (
-        "choose, 255 champions",
-        "00000007 02 ffffffff 0000 ff",
-        "ffffffffffffffff",
-        255,
-        "",
-        true,
-    ),
-    (
-        "commit, least",
-        "00000007 03 00000001 00000002 aaaaaaaaaaaaaaaaaaaaaaaaaaaaaaaaaaaaaaaaaaaaaaaaaaaaaaaaaaaaaaaa bbbbbbbbbbbbbbbbbbbbbbbbbbbbbbbbbbbbbbbbbbbbbbbbbbbbbbbbbbbbbbbb 00000001 00000001 00000000 00000000 0000",
-        "",
-        0,
-        "",
-        true,
-    ),
-    (
-        "commit, greatest",
-        "00000007 03 00000001 00000002 aaaaaaaaaaaaaaaaaaaaaaaaaaaaaaaaaaaaaaaaaaaaaaaaaaaaaaaaaaaaaaaa bbbbbbbbbbbbbbbbbbbbbbbbbbbbbbbbbbbbbbbbbbbbbbbbbbbbbbbbbbbbbbbb 00001000 02bc0000 00001000 02bc0000 1000",
-        "ffffffffffffffff",
-        4096,
-        "",
-        true,
-    ),
-    (
-        "commit, a use",
-        "00000007 03 00000001 00000002 aaaaaaaaaaaaaaaaaaaaaaaaaaaaaaaaaaaaaaaaaaaaaaaaaaaaaaaaaaaaaaaa bbbbbbbbbbbbbbbbbbbbbbbbbbbbbbbbbbbbbbbbbbbbbbbbbbbbbbbbbbbbbbbb 00000002 00000003 00000001 00000002 0001",
-        "0000000000000000",
-        1,
-        "",
-        true,
-    ),
-    (
-        "commit, no chunk",
-        "00000007 03 00000001 00000002 aaaaaaaaaaaaaaaaaaaaaaaaaaaaaaaaaaaaaaaaaaaaaaaaaaaaaaaaaaaaaaaa bbbbbbbbbbbbbbbbbbbbbbbbbbbbbbbbbbbbbbbbbbbbbbbbbbbbbbbbbbbbbbbb 00000000 00000000 00000000 00000000 0000",
-        "",
-        0,
-        "",
-        false,
-    ),
-    (
-        "commit, no chunk, a byte",
-        "00000007 03 00000001 00000002 aaaaaaaaaaaaaaaaaaaaaaaaaaaaaaaaaaaaaaaaaaaaaaaaaaaaaaaaaaaaaaaa bbbbbbbbbbbbbbbbbbbbbbbbbbbbbbbbbbbbbbbbbbbbbbbbbbbbbbbbbbbbbbbb 00000000 00000001 00000000 00000000 0000",
-        "",
-        0,
-        "",
-        false,
-    ),
-    (
-        "commit, 4097 chunks",
-        "00000007 03 00000001 00000002 aaaaaaaaaaaaaaaaaaaaaaaaaaaaaaaaaaaaaaaaaaaaaaaaaaaaaaaaaaaaaaaa bbbbbbbbbbbbbbbbbbbbbbbbbbbbbbbbbbbbbbbbbbbbbbbbbbbbbbbbbbbbbbbb 00001001 00001001 00000000 00000000 0000",
-        "",
-        0,
-        "",
-        false,
-    ),
-    (
-        "commit, fewer bytes than chunks",
-        "00000007 03 00000001 00000002 aaaaaaaaaaaaaaaaaaaaaaaaaaaaaaaaaaaaaaaaaaaaaaaaaaaaaaaaaaaaaaaa bbbbbbbbbbbbbbbbbbbbbbbbbbbbbbbbbbbbbbbbbbbbbbbbbbbbbbbbbbbbbbbb 00000002 00000001 00000000 00000000 0000",
-        "",
-        0,
-        "",
-        false,
-    ),
-    (
-        "commit, too many bytes",
-        "00000007 03 00000001 00000002 aaaaaaaaaaaaaaaaaaaaaaaaaaaaaaaaaaaaaaaaaaaaaaaaaaaaaaaaaaaaaaaa bbbbbbbbbbbbbbbbbbbbbbbbbbbbbbbbbbbbbbbbbbbbbbbbbbbbbbbbbbbbbbbb 00001000 02bc0001 00000000 00000000 0000",
-        "",
-        0,
-        "",
-        false,
-    ),
-    (
-        "commit, more fresh than chunks",
-        "00000007 03 00000001 00000002 aaaaaaaaaaaaaaaaaaaaaaaaaaaaaaaaaaaaaaaaaaaaaaaaaaaaaaaaaaaaaaaa bbbbbbbbbbbbbbbbbbbbbbbbbbbbbbbbbbbbbbbbbbbbbbbbbbbbbbbbbbbbbbbb 00000002 00000003 00000003 00000003 0000",
-        "",
-        0,
-        "",
-        false,
-    ),
-    (
-        "commit, more fresh bytes than bytes",
-        "00000007 03 00000001 00000002 aaaaaaaaaaaaaaaaaaaaaaaaaaaaaaaaaaaaaaaaaaaaaaaaaaaaaaaaaaaaaaaa bbbbbbbbbbbbbbbbbbbbbbbbbbbbbbbbbbbbbbbbbbbbbbbbbbbbbbbbbbbbbbbb 00000002 00000003 00000002 00000004 0000",
-        "",
-        0,
-        "",
-        false,
-    ),
-    (
-        "commit, 4097 uses",
-        "00000007 03 00000001 00000002 aaaaaaaaaaaaaaaaaaaaaaaaaaaaaaaaaaaaaaaaaaaaaaaaaaaaaaaaaaaaaaaa bbbbbbbbbbbbbbbbbbbbbbbbbbbbbbbbbbbbbbbbbbbbbbbbbbbbbbbbbbbbbbbb 00000001 00000001 00000000 00000000 1001",
-        "0000000000000000",
-        4097,
-        "",
-        false,
-    ),
-    (
-        "finish, least",
-        "00000007 04 00000000 00000000",
-        "",
-        0,
-        "",
-        true,
-    ),
-    (
-        "finish, greatest",
-        "ffffffff 04 ffffffff ffffffff",
-        "",
-        0,
-        "",
-        true,
-    ),
-    (
-        "abort, least",
-        "00000007 05 00000000 00000000 00000000",
-        "",
-        0,
-        "",
-        true,
-    ),
-    (
-        "abort, greatest",
-        "ffffffff 05 ffffffff ffffffff ffffffff",
-        "",
-        0,
-        "",
-        true,
-    ),
-    ("done, least", "00000007 08 00000000", "", 0, "", true),
-    ("done, greatest", "ffffffff 08 ffffffff", "", 0, "", true),
-    ("reclaim, least", "00000007 09 00", "", 0, "", true),
-    (
-        "reclaim, a container and a manifest",
-        "00000007 09 02 01 00000001 00000002 02 00000003 00000004",
-        "",
-        0,
-        "",
-        true,
-    ),
-    (
-        "reclaim, 16 objects",
-        "00000007 09 10",
-        "02ffffffffffffffff",
-        16,
-        "",
-        true,
-    ),
-    (
-        "reclaim, 17 objects",
-        "00000007 09 11",
-        "02ffffffffffffffff",
-        17,
-        "",
-        false,
-    ),
-    (
-        "reclaim, an object of kind 0",
-        "00000007 09 01 00 00000001 00000002",
-        "",
-        0,
-        "",
-        false,
-    ),
-    (
-        "reclaim, an object of kind 3",
-        "00000007 09 01 03 00000001 00000002",
-        "",
-        0,
-        "",
-        false,
-    ),
-    (
-        "stat, least",
-        "00000007 0a 0000000000000000 0000000000000000 0000000000000000 0000000000000000 0000000000000000 0000000000000000",
-        "",
-        0,
-        "",
-        true,
-    ),
-    (
-        "stat, greatest",
-        "ffffffff 0a ffffffffffffffff ffffffffffffffff ffffffffffffffff ffffffffffffffff ffffffffffffffff ffffffffffffffff",
-        "",
-        0,
-        "",
-        true,
-    ),
-    ("kind 0", "00000007 00", "00", 64, "", false),
-    ("kind 11", "00000007 0b", "00", 64, "", false),
-];
+fn rows() -> [Row; 53] {
+    [
+        ("begin, no reply", "00000007 01 01 61 00", "", 0, "", true),
+        (
+            "begin, least",
+            "00000007 01 01 61 01 00000000",
+            "",
+            0,
+            "",
+            true,
+        ),
+        (
+            "begin, greatest",
+            "ffffffff 01 40",
+            "7a",
+            64,
+            "01 ffffffff",
+            true,
+        ),
+        (
+            "begin, a name of 0 bytes",
+            "00000007 01 00 00",
+            "",
+            0,
+            "",
+            false,
+        ),
+        (
+            "begin, a name of 65 bytes",
+            "00000007 01 41",
+            "7a",
+            65,
+            "00",
+            false,
+        ),
+        (
+            "begin, a name with a space",
+            "00000007 01 03 612062 00",
+            "",
+            0,
+            "",
+            false,
+        ),
+        (
+            "begin, a reply of 2",
+            "00000007 01 01 61 02 00000000",
+            "",
+            0,
+            "",
+            false,
+        ),
+        ("delete, no reply", "00000007 06 01 61 00", "", 0, "", true),
+        (
+            "delete, least",
+            "00000007 06 01 61 01 00000000",
+            "",
+            0,
+            "",
+            true,
+        ),
+        (
+            "delete, greatest",
+            "ffffffff 06 40",
+            "7a",
+            64,
+            "01 ffffffff",
+            true,
+        ),
+        (
+            "delete, a name of 0 bytes",
+            "00000007 06 00 00",
+            "",
+            0,
+            "",
+            false,
+        ),
+        (
+            "delete, a name of 65 bytes",
+            "00000007 06 41",
+            "7a",
+            65,
+            "00",
+            false,
+        ),
+        (
+            "delete, a name with a space",
+            "00000007 06 03 612062 00",
+            "",
+            0,
+            "",
+            false,
+        ),
+        (
+            "delete, a reply of 2",
+            "00000007 06 01 61 02 00000000",
+            "",
+            0,
+            "",
+            false,
+        ),
+        ("look, no reply", "00000007 07 01 61 00", "", 0, "", true),
+        (
+            "look, least",
+            "00000007 07 01 61 01 00000000 00000000",
+            "",
+            0,
+            "",
+            true,
+        ),
+        (
+            "look, greatest",
+            "ffffffff 07 40",
+            "7a",
+            64,
+            "01 ffffffff ffffffff",
+            true,
+        ),
+        (
+            "look, a name of 0 bytes",
+            "00000007 07 00 00",
+            "",
+            0,
+            "",
+            false,
+        ),
+        (
+            "look, a name of 65 bytes",
+            "00000007 07 41",
+            "7a",
+            65,
+            "00",
+            false,
+        ),
+        (
+            "look, a name with a space",
+            "00000007 07 03 612062 00",
+            "",
+            0,
+            "",
+            false,
+        ),
+        (
+            "look, a reply of 2",
+            "00000007 07 01 61 02 00000000 00000000",
+            "",
+            0,
+            "",
+            false,
+        ),
+        (
+            "choose, least",
+            "00000007 02 00000000 0000 00",
+            "",
+            0,
+            "",
+            true,
+        ),
+        (
+            "choose, two hooks and a champion",
+            "00000007 02 00000001 0002",
+            "abababababababababababababababababababababababababababababababab",
+            2,
+            "01 00000003 00000004",
+            true,
+        ),
+        (
+            "choose, greatest",
+            "00000007 02 ffffffff 1000",
+            "ffffffffffffffffffffffffffffffffffffffffffffffffffffffffffffffff",
+            4096,
+            "00",
+            true,
+        ),
+        (
+            "choose, 4097 hooks",
+            "00000007 02 ffffffff 1001",
+            "ffffffffffffffffffffffffffffffffffffffffffffffffffffffffffffffff",
+            4097,
+            "00",
+            false,
+        ),
+        (
+            "choose, 255 champions",
+            "00000007 02 ffffffff 0000 ff",
+            "ffffffffffffffff",
+            255,
+            "",
+            true,
+        ),
+        (
+            "commit, least",
+            "00000007 03 00000001 00000002 aaaaaaaaaaaaaaaaaaaaaaaaaaaaaaaaaaaaaaaaaaaaaaaaaaaaaaaaaaaaaaaa bbbbbbbbbbbbbbbbbbbbbbbbbbbbbbbbbbbbbbbbbbbbbbbbbbbbbbbbbbbbbbbb 00000001 00000001 00000000 00000000 0000",
+            "",
+            0,
+            "",
+            true,
+        ),
+        (
+            "commit, greatest",
+            "00000007 03 00000001 00000002 aaaaaaaaaaaaaaaaaaaaaaaaaaaaaaaaaaaaaaaaaaaaaaaaaaaaaaaaaaaaaaaa bbbbbbbbbbbbbbbbbbbbbbbbbbbbbbbbbbbbbbbbbbbbbbbbbbbbbbbbbbbbbbbb 00001000 02bc0000 00001000 02bc0000 1000",
+            "ffffffffffffffff",
+            4096,
+            "",
+            true,
+        ),
+        (
+            "commit, a use",
+            "00000007 03 00000001 00000002 aaaaaaaaaaaaaaaaaaaaaaaaaaaaaaaaaaaaaaaaaaaaaaaaaaaaaaaaaaaaaaaa bbbbbbbbbbbbbbbbbbbbbbbbbbbbbbbbbbbbbbbbbbbbbbbbbbbbbbbbbbbbbbbb 00000002 00000003 00000001 00000002 0001",
+            "0000000000000000",
+            1,
+            "",
+            true,
+        ),
+        (
+            "commit, no chunk",
+            "00000007 03 00000001 00000002 aaaaaaaaaaaaaaaaaaaaaaaaaaaaaaaaaaaaaaaaaaaaaaaaaaaaaaaaaaaaaaaa bbbbbbbbbbbbbbbbbbbbbbbbbbbbbbbbbbbbbbbbbbbbbbbbbbbbbbbbbbbbbbbb 00000000 00000000 00000000 00000000 0000",
+            "",
+            0,
+            "",
+            false,
+        ),
+        (
+            "commit, no chunk, a byte",
+            "00000007 03 00000001 00000002 aaaaaaaaaaaaaaaaaaaaaaaaaaaaaaaaaaaaaaaaaaaaaaaaaaaaaaaaaaaaaaaa bbbbbbbbbbbbbbbbbbbbbbbbbbbbbbbbbbbbbbbbbbbbbbbbbbbbbbbbbbbbbbbb 00000000 00000001 00000000 00000000 0000",
+            "",
+            0,
+            "",
+            false,
+        ),
+        (
+            "commit, 4097 chunks",
+            "00000007 03 00000001 00000002 aaaaaaaaaaaaaaaaaaaaaaaaaaaaaaaaaaaaaaaaaaaaaaaaaaaaaaaaaaaaaaaa bbbbbbbbbbbbbbbbbbbbbbbbbbbbbbbbbbbbbbbbbbbbbbbbbbbbbbbbbbbbbbbb 00001001 00001001 00000000 00000000 0000",
+            "",
+            0,
+            "",
+            false,
+        ),
+        (
+            "commit, fewer bytes than chunks",
+            "00000007 03 00000001 00000002 aaaaaaaaaaaaaaaaaaaaaaaaaaaaaaaaaaaaaaaaaaaaaaaaaaaaaaaaaaaaaaaa bbbbbbbbbbbbbbbbbbbbbbbbbbbbbbbbbbbbbbbbbbbbbbbbbbbbbbbbbbbbbbbb 00000002 00000001 00000000 00000000 0000",
+            "",
+            0,
+            "",
+            false,
+        ),
+        (
+            "commit, too many bytes",
+            "00000007 03 00000001 00000002 aaaaaaaaaaaaaaaaaaaaaaaaaaaaaaaaaaaaaaaaaaaaaaaaaaaaaaaaaaaaaaaa bbbbbbbbbbbbbbbbbbbbbbbbbbbbbbbbbbbbbbbbbbbbbbbbbbbbbbbbbbbbbbbb 00001000 02bc0001 00000000 00000000 0000",
+            "",
+            0,
+            "",
+            false,
+        ),
+        (
+            "commit, more fresh than chunks",
+            "00000007 03 00000001 00000002 aaaaaaaaaaaaaaaaaaaaaaaaaaaaaaaaaaaaaaaaaaaaaaaaaaaaaaaaaaaaaaaa bbbbbbbbbbbbbbbbbbbbbbbbbbbbbbbbbbbbbbbbbbbbbbbbbbbbbbbbbbbbbbbb 00000002 00000003 00000003 00000003 0000",
+            "",
+            0,
+            "",
+            false,
+        ),
+        (
+            "commit, more fresh bytes than bytes",
+            "00000007 03 00000001 00000002 aaaaaaaaaaaaaaaaaaaaaaaaaaaaaaaaaaaaaaaaaaaaaaaaaaaaaaaaaaaaaaaa bbbbbbbbbbbbbbbbbbbbbbbbbbbbbbbbbbbbbbbbbbbbbbbbbbbbbbbbbbbbbbbb 00000002 00000003 00000002 00000004 0000",
+            "",
+            0,
+            "",
+            false,
+        ),
+        (
+            "commit, 4097 uses",
+            "00000007 03 00000001 00000002 aaaaaaaaaaaaaaaaaaaaaaaaaaaaaaaaaaaaaaaaaaaaaaaaaaaaaaaaaaaaaaaa bbbbbbbbbbbbbbbbbbbbbbbbbbbbbbbbbbbbbbbbbbbbbbbbbbbbbbbbbbbbbbbb 00000001 00000001 00000000 00000000 1001",
+            "0000000000000000",
+            4097,
+            "",
+            false,
+        ),
+        (
+            "finish, least",
+            "00000007 04 00000000 00000000",
+            "",
+            0,
+            "",
+            true,
+        ),
+        (
+            "finish, greatest",
+            "ffffffff 04 ffffffff ffffffff",
+            "",
+            0,
+            "",
+            true,
+        ),
+        (
+            "abort, least",
+            "00000007 05 00000000 00000000 00000000",
+            "",
+            0,
+            "",
+            true,
+        ),
+        (
+            "abort, greatest",
+            "ffffffff 05 ffffffff ffffffff ffffffff",
+            "",
+            0,
+            "",
+            true,
+        ),
+        ("done, least", "00000007 08 00000000", "", 0, "", true),
+        ("done, greatest", "ffffffff 08 ffffffff", "", 0, "", true),
+        ("reclaim, least", "00000007 09 00", "", 0, "", true),
+        (
+            "reclaim, a container and a manifest",
+            "00000007 09 02 01 00000001 00000002 02 00000003 00000004",
+            "",
+            0,
+            "",
+            true,
+        ),
+        (
+            "reclaim, 16 objects",
+            "00000007 09 10",
+            "02ffffffffffffffff",
+            16,
+            "",
+            true,
+        ),
+        (
+            "reclaim, 17 objects",
+            "00000007 09 11",
+            "02ffffffffffffffff",
+            17,
+            "",
+            false,
+        ),
+        (
+            "reclaim, an object of kind 0",
+            "00000007 09 01 00 00000001 00000002",
+            "",
+            0,
+            "",
+            false,
+        ),
+        (
+            "reclaim, an object of kind 3",
+            "00000007 09 01 03 00000001 00000002",
+            "",
+            0,
+            "",
+            false,
+        ),
+        (
+            "stat, least",
+            "00000007 0a 0000000000000000 0000000000000000 0000000000000000 0000000000000000 0000000000000000 0000000000000000",
+            "",
+            0,
+            "",
+            true,
+        ),
+        (
+            "stat, greatest",
+            "ffffffff 0a ffffffffffffffff ffffffffffffffff ffffffffffffffff ffffffffffffffff ffffffffffffffff ffffffffffffffff",
+            "",
+            0,
+            "",
+            true,
+        ),
+        ("kind 0", "00000007 00", "00", 64, "", false),
+        ("kind 11", "00000007 0b", "00", 64, "", false),
+    ]
+}
 
 fn push_hex(out: &mut Vec<u8>, text: &str) -> Result<(), AllocError> {
     let mut high = None;
@@ -417,8 +420,12 @@ fn text_of(alloc: Global, row: Row) -> Result<Vec<u8>, AllocError> {
     Ok(text)
 }
 
-// The journal of a first backup, header and entries, in hexadecimal.
-const FIRST_BACKUP: &str = "53534a31 00 000000
+// The journal of a first backup, header and entries.
+fn first_journal(alloc: Global) -> Result<Vec<u8>, AllocError> {
+    let mut journal = Vec::new(alloc);
+    push_hex(
+        &mut journal,
+        "53534a31 00 000000
     00000000 01 05 7a65726f73 01 00000000
     00000000 02 00000000 0002
     5341e6b2646979a70e57653007a1f310169421ec9bdd9f1a5648f75ade005af1
@@ -427,7 +434,10 @@ const FIRST_BACKUP: &str = "53534a31 00 000000
     3ed00f5fef48f1f089cb71f7bbcdeb34f739e9cd263a4c1c91d575cd203d147c
     23ec11eae3f6c1c3f0d8f9efc9b8864895a39dbe4e39a17c866fa596b17f5a46
     00000004 00000301 00000002 00000101 0001 00000000 00000000
-    00000000 04 00000000 00000001";
+    00000000 04 00000000 00000001",
+    )?;
+    Ok(journal)
+}
 
 fn digest(alloc: Global, hex: &str) -> Result<Name, AllocError> {
     let mut bytes = Vec::new(alloc);
@@ -459,12 +469,9 @@ fn stands_at(
     Ok(())
 }
 
-#[test]
-fn first_backup(rt: HostRuntime) -> Result<(), Fail> {
-    let alloc = rt.alloc();
-    let mut journal = Vec::new(alloc);
-    push_hex(&mut journal, FIRST_BACKUP)?;
-    assert_eq!(rt; journal.len(), 216);
+fn first_choose(alloc: Global) -> Result<Point, AllocError>
+    ensures { IfOk result PointIsWithinBounds }
+{
     let zeros = digest(
         alloc,
         "5341e6b2646979a70e57653007a1f310169421ec9bdd9f1a5648f75ade005af1",
@@ -473,35 +480,50 @@ fn first_backup(rt: HostRuntime) -> Result<(), Fail> {
         alloc,
         "3e23e8160039594a33894f6564e1b1348bbd7a0088d42c4acb73eeaed59c009d",
     )?;
-    let begin = Point::Begin {
-        name: StreamName::new(b"zeros").ok_or("a name")?,
-        session: Some(0),
-    };
-    let choose = Point::Choose {
+    Ok(Point::Choose {
         session: 0,
         hooks: Items::new(Vec::from_array(alloc, [zeros, letter])?),
         champions: Items::new(Vec::new(alloc)),
-    };
+    })
+}
+
+fn first_commit(alloc: Global) -> Result<Point, AllocError>
+    ensures { IfOk result PointIsWithinBounds }
+{
+    let content = digest(
+        alloc,
+        "3ed00f5fef48f1f089cb71f7bbcdeb34f739e9cd263a4c1c91d575cd203d147c",
+    )?;
+    let text = digest(
+        alloc,
+        "23ec11eae3f6c1c3f0d8f9efc9b8864895a39dbe4e39a17c866fa596b17f5a46",
+    )?;
     let container = ContainerId {
         session: 0,
         ordinal: 0,
     };
-    let commit = Point::Commit {
+    Ok(Point::Commit {
         manifest: ManifestId { session: 0, seq: 0 },
-        content: digest(
-            alloc,
-            "3ed00f5fef48f1f089cb71f7bbcdeb34f739e9cd263a4c1c91d575cd203d147c",
-        )?,
-        text: digest(
-            alloc,
-            "23ec11eae3f6c1c3f0d8f9efc9b8864895a39dbe4e39a17c866fa596b17f5a46",
-        )?,
+        content,
+        text,
         chunks: 4,
         bytes: 769,
         fresh: 2,
         fresh_bytes: 257,
         uses: Items::new(Vec::from_array(alloc, [container])?),
+    })
+}
+
+#[test]
+fn first_backup(rt: HostRuntime) -> Result<(), Fail> {
+    let alloc = rt.alloc();
+    let journal = first_journal(alloc)?;
+    let begin = Point::Begin {
+        name: StreamName::new(b"zeros").ok_or("a name")?,
+        session: Some(0),
     };
+    let choose = first_choose(alloc)?;
+    let commit = first_commit(alloc)?;
     let finish = Point::Finish {
         session: 0,
         containers: 1,
@@ -516,7 +538,7 @@ fn first_backup(rt: HostRuntime) -> Result<(), Fail> {
 #[test]
 fn edges_of_each_kind(rt: HostRuntime) -> Result<(), Fail> {
     let alloc = rt.alloc();
-    for row in ROWS {
+    for row in rows() {
         let text = text_of(alloc, row)?;
         match decode_entry(alloc, &text)? {
             None => assert!(rt; !row.5, "{}", row.0),
@@ -534,7 +556,7 @@ fn edges_of_each_kind(rt: HostRuntime) -> Result<(), Fail> {
 #[test]
 fn no_part_is_an_entry(rt: HostRuntime) -> Result<(), Fail> {
     let alloc = rt.alloc();
-    for row in ROWS {
+    for row in rows() {
         let text = text_of(alloc, row)?;
         if row.5 && text.len() < 256 {
             for len in 0..text.len() {
