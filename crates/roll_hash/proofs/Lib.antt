@@ -1,1 +1,2 @@
 pub mod FingerprintLaws
+pub mod WindowLaws

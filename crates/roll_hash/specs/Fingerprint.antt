@@ -11,6 +11,10 @@ unfoldable pub weighted_sum : List ℕ → ℕ
 weighted_sum [] = 0
 weighted_sum (x ∷ xs) = x * base ^ length xs + weighted_sum xs
 
+-- the sum modulo 2 ^ 64
+unfoldable pub window_sum : List ℕ → ℕ
+window_sum window = weighted_sum window % 2 ^ 64
+
 -- the sum modulo 2 ^ 64, divided by 2 ^ 32 and rounded down
 unfoldable pub fingerprint : List ℕ → ℕ
-fingerprint window = weighted_sum window % 2 ^ 64 / 2 ^ 32
+fingerprint window = window_sum window / 2 ^ 32

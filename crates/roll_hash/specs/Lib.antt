@@ -1,1 +1,3 @@
 pub mod Fingerprint
+pub mod Rolled
+pub use Rattle.circular_buffer.specs.Buffer
