@@ -1,3 +1,7 @@
 pub mod CutLaws
 pub mod SoundLaws
 pub mod SearchSteps
+pub mod StreamLaws
+pub mod ScanLaws
+pub mod ProgressLaws
+pub mod KeptLaws

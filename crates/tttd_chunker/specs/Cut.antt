@@ -1,6 +1,6 @@
 -- The cut of a stream into chunks by the two thresholds and two divisors of the TTTD report. The fingerprint is
 -- this project's own.
-use Rattle.std.specs.Prelude.{ℕ, ◌-◌, ◌%◌, Bool, ◌==◌, nat_lt, min, if◌then◌else◌, unwrap_or, List, length, slice_range}
+use Rattle.std.specs.Prelude.{ℕ, ◌-◌, ◌%◌, Bool, ◌==◌, ◌||◌, nat_lt, nat_le, min, if◌then◌else◌, unwrap_or, is_some, List, length, slice_range}
 use Rattle.ss_base.specs.declared.profile.Numbers.{Numbers}
 use Rattle.ss_base.specs.Search.{least, greatest}
 use Rattle.ss_base.specs.Parts.{parts}
@@ -29,6 +29,11 @@ unfoldable pub first_cut : Numbers → List ℕ → ℕ
 first_cut n bytes =
     unwrap_or (least (meets_main n bytes) n.tmin (min n.tmax (length bytes)))
     (if nat_lt (length bytes) n.tmax then length bytes else unwrap_or (greatest (meets_backup n bytes) n.tmin n.tmax) n.tmax)
+
+-- the first chunk ends however the stream goes on: a position meets the main test, or the bytes are at least as
+-- many as the upper threshold
+unfoldable pub has_cut : Numbers → List ℕ → Bool
+has_cut n bytes = is_some (least (meets_main n bytes) n.tmin (min n.tmax (length bytes))) || nat_le n.tmax (length bytes)
 
 -- the chunks of a stream: the first one, and those of the rest
 unfoldable pub cut : Numbers → List ℕ → List (List ℕ)

@@ -1,5 +1,8 @@
 pub mod Cut
 pub mod IsCut
+pub mod Scanned
+pub mod Pending
+pub mod Kept
 pub use Rattle.roll_hash.specs.Fingerprint
 pub use Rattle.ss_base.specs.Profile
 pub use Rattle.ss_base.specs.Parts
