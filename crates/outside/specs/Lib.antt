@@ -7,3 +7,4 @@ pub mod Shelf
 pub mod ObjectMap
 pub mod MemShelf
 pub mod ShelfSource
+pub mod DirShelf

@@ -7,6 +7,7 @@ use crate::{Shelf, Trouble};
 use std::alloc::Global;
 use std::fs::OpenOptions;
 use std::io::{ErrorKind, Write};
+use std::marker::Model;
 use std::os::unix::fs::FileExt;
 use std::rt::Files;
 use std::{fs, io};
@@ -25,9 +26,20 @@ pub struct DirShelf<'a, R: Files + Sync> {
     faults: u64,
 }
 
+impl<'a, R: Files + Sync> Model for DirShelf<'a, R> {
+    ghost use Rattle.outside.specs.DirShelf.{FolderCounts};
+
+    ghost Value = { FolderCounts };
+
+    ghost view = { λ s. record { reads = s.reads; faults = s.faults } };
+}
+
 impl<'a, R: Files + Sync> DirShelf<'a, R> {
     /// A shelf over the files of this folder, which need not be there yet. No file is touched.
-    pub fn new(rt: &'a R, folder: String) -> DirShelf<'a, R> {
+    pub fn new(rt: &'a R, folder: String) -> DirShelf<'a, R>
+        ensures reads { result.reads ≡ 0 }
+        ensures faults { result.faults ≡ 0 }
+    {
         DirShelf {
             rt,
             folder,
