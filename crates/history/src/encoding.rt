@@ -1,7 +1,7 @@
 // Writing an entry.
 ghost use Rattle.std.specs.Prelude.{◌≡◌, ◌<◌, ◌++◌, OnOk, IfOk};
 ghost use Rattle.history.specs.EntryText.{point_text, entry_text};
-ghost use Rattle.history.specs.Bounds.{PointIsWithinBounds, IsWithinBounds};
+ghost use Rattle.history.specs.Bounds.{PointFits, IsEntry, PointIsWithinBounds, IsWithinBounds};
 
 use crate::writing::{
     put_byte, put_digest, put_fields, put_long_list, put_manifest, put_seen_reply,
@@ -17,7 +17,8 @@ const FIXED: usize = 128;
 /// The entry's text.
 pub fn encode_entry(alloc: Global, entry: &Entry) -> Result<Vec<u8>, Memory>
     requires { IsWithinBounds entry.now }
-    ensures { IfOk result (λ text. text.items ≡ entry_text entry.now) }
+    ensures text { IfOk result (λ text. text.items ≡ entry_text entry.now) }
+    ensures entry { IfOk result (λ _. IsEntry entry.now) }
 {
     let mut text = Vec::with_capacity(alloc, FIXED + len_of_lists(&entry.point))?;
     put_u32(&mut text, &entry.author)?;
@@ -42,7 +43,8 @@ fn len_of_lists(point: &Point) -> usize
 
 fn put_point(out: &mut Vec<u8>, point: &Point) -> Result<(), AllocError>
     requires { PointIsWithinBounds point.now }
-    ensures { OnOk result (out.new.items ≡ out.old.items ++ point_text point.now) }
+    ensures text { OnOk result (out.new.items ≡ out.old.items ++ point_text point.now) }
+    ensures fits { OnOk result (PointFits point.now) }
 {
     match point {
         Point::Begin { name, session } => put_fields!(out;

@@ -2,6 +2,7 @@
 ghost use Rattle.std.specs.Prelude.{◌≡◌, ◌++◌, OnOk};
 ghost use Rattle.history.specs.EntryText.{digest_text, manifest_text, container_text, object_text};
 ghost use Rattle.history.specs.Reading.{Gives, digest_at, manifest_at, container_at, object_at};
+ghost use Rattle.history.specs.Bounds.{IsDigest, FitsManifest, FitsContainer, FitsObject};
 
 use crate::fault::ReadError;
 use crate::reading::{container_at, digest_at, manifest_at, object_at};
@@ -18,17 +19,22 @@ pub(crate) trait Item: Drop {
 
     ghost item_at: { Reader Self };
 
+    ghost fits: { Self → Type 0 };
+
     fn read(bytes: &[u8]) -> Result<(Self, &[u8]), ReadError>
         ensures { Gives (λ x. (x.0, x.1.now)) result (item_at bytes.now) };
 
     fn put(&self, out: &mut Vec<u8>) -> Result<(), AllocError>
-        ensures { OnOk result (out.new.items ≡ out.old.items ++ item_text self.now) };
+        ensures text { OnOk result (out.new.items ≡ out.old.items ++ item_text self.now) }
+        ensures fits { OnOk result (fits self.now) };
 }
 
 impl Item for Name {
     ghost item_text = { digest_text };
 
     ghost item_at = { digest_at };
+
+    ghost fits = { IsDigest };
 
     fn read(bytes: &[u8]) -> Result<(Self, &[u8]), ReadError> {
         digest_at(bytes)
@@ -44,6 +50,8 @@ impl Item for ManifestId {
 
     ghost item_at = { manifest_at };
 
+    ghost fits = { FitsManifest };
+
     fn read(bytes: &[u8]) -> Result<(Self, &[u8]), ReadError> {
         manifest_at(bytes)
     }
@@ -58,6 +66,8 @@ impl Item for ContainerId {
 
     ghost item_at = { container_at };
 
+    ghost fits = { FitsContainer };
+
     fn read(bytes: &[u8]) -> Result<(Self, &[u8]), ReadError> {
         container_at(bytes)
     }
@@ -71,6 +81,8 @@ impl Item for Object {
     ghost item_text = { object_text };
 
     ghost item_at = { object_at };
+
+    ghost fits = { FitsObject };
 
     fn read(bytes: &[u8]) -> Result<(Self, &[u8]), ReadError> {
         object_at(bytes)
