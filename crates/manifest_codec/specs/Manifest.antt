@@ -11,4 +11,4 @@ pub record AreListed (pieces : List Piece) (places : List Place) : Type 0 where
   pub some : 1 ≤ length pieces
   pub bounded : length pieces ≤ 4096
   pub lengths : All HasChunkLen pieces
-  pub places : length places ≡ length pieces
+  pub located : length places ≡ length pieces
