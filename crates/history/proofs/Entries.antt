@@ -1,8 +1,6 @@
 -- The fields, the points and the entries: what is read has that text, and each text is read.
-use Rattle.std.proofs.Common.{◌≡◌, ℕ, zero, suc, ◌+◌, ◌-◌, ◌^◌, ◌<◌, ◌≤◌, Bool, true, false, ◌&&◌, leb, List, [], ◌∷◌, ◌++◌, length, take, drop, Option, Some, None, refl, sym, ap, subst, ◌∙◌, arith}
-use Rattle.std.specs.Prelude.{IfSome}
+use Rattle.std.proofs.Common.{◌≡◌, ℕ, zero, suc, ◌+◌, ◌-◌, ◌≤◌, true, ◌&&◌, leb, List, [], ◌∷◌, ◌++◌, length, take, drop, Option, Some, None, refl, sym, ap, subst, ◌∙◌, arith}
 use Rattle.std.specs.List.{AllByRecursion}
-use Rattle.std.specs.Int.{w32, to_be_bytes}
 use Rattle.std.proofs.lemmas.Bool.{leb-true, le-leb, and_parts, and_from}
 use Rattle.std.proofs.lemmas.Option.{same_Some, some_pair_parts}
 use Rattle.std.proofs.lemmas.List.{take_at, take-append-drop, length-append}
@@ -19,7 +17,7 @@ use Rattle.history.specs.declared.entry.Point.{Point}
 use Rattle.history.specs.declared.entry.Point.TheVariants.{Begin, Choose, Commit, Finish, Abort, Delete, Look, Done, Reclaim, Stat}
 use Rattle.history.specs.EntryText.{number_text, digest_text, stream_name_text, manifest_text, container_text, object_text, seen_text, totals_text, point_text, entry_text, entries_text}
 use Rattle.history.specs.Bounds.{AreCounts, PointIsWithinBounds, IsDigest, FitsManifest, FitsContainer, FitsObject, FitsSeen, FitTotals, PointFits, IsEntry, Begins}
-use Rattle.history.specs.Reading.{◌>>=◌, Reader, made, byte_at, is_name, are_counts, digest_at, stream_name_at, manifest_at, container_at, object_at, seen_at, totals_at, begin_at, choose_at, commit_at, finish_at, abort_at, delete_at, look_at, done_at, reclaim_at, stat_at, fields_at, point_at, entry_at}
+use Rattle.history.specs.Reading.{Reader, made, byte_at, is_name, are_counts, digest_at, stream_name_at, manifest_at, container_at, object_at, seen_at, totals_at, begin_at, choose_at, commit_at, finish_at, abort_at, delete_at, look_at, done_at, reclaim_at, stat_at, fields_at, point_at, entry_at}
 use Rattle.history.proofs.Names.{is_name-true, IsStreamName-from}
 use Rattle.history.proofs.Fields.{IsBytes, IsBytes-rest, Takes, Takes-byte, Reads, bind_some, reads_as, ◌⊗◌, reads_made, reads_passing, reads_sized, a_byte, number16, number32, number64, some_bytes, a_list, a_reply}
 

@@ -6,8 +6,8 @@ ghost use Rattle.history.specs.Reading.{Gives, begin_at, choose_at, are_counts, 
 
 use crate::fault::ReadError;
 use crate::reading::{
-    digest_at, long_list_at, manifest_at, read_fields, seen_reply_at, session_reply_at,
-    short_list_at, stream_name_at, totals_at, u32_at,
+    digest_at, long_list_at, manifest_at, read_fields, reply_at, short_list_at, stream_name_at,
+    totals_at, u32_at,
 };
 use crate::{Entry, Point};
 use ss_base::Memory;
@@ -74,7 +74,7 @@ fn begin_at(rest: &[u8]) -> Result<(Point, &[u8]), ReadError>
 {
     read_fields!(rest;
         name: stream_name_at();
-        session: session_reply_at();
+        session: reply_at();
     );
     Ok((Point::Begin { name, session }, rest))
 }
@@ -175,7 +175,7 @@ fn delete_at(rest: &[u8]) -> Result<(Point, &[u8]), ReadError>
 {
     read_fields!(rest;
         name: stream_name_at();
-        session: session_reply_at();
+        session: reply_at();
     );
     Ok((Point::Delete { name, session }, rest))
 }
@@ -186,7 +186,7 @@ fn look_at(rest: &[u8]) -> Result<(Point, &[u8]), ReadError>
 {
     read_fields!(rest;
         name: stream_name_at();
-        seen: seen_reply_at();
+        seen: reply_at();
     );
     Ok((Point::Look { name, seen }, rest))
 }

@@ -4,8 +4,8 @@ ghost use Rattle.history.specs.EntryText.{point_text, entry_text};
 ghost use Rattle.history.specs.Bounds.{PointFits, IsEntry, PointIsWithinBounds, IsWithinBounds};
 
 use crate::writing::{
-    put_byte, put_digest, put_fields, put_long_list, put_manifest, put_seen_reply,
-    put_session_reply, put_short_list, put_stream_name, put_totals, put_u32,
+    put_byte, put_digest, put_fields, put_long_list, put_manifest, put_reply, put_short_list,
+    put_stream_name, put_totals, put_u32,
 };
 use crate::{Entry, Point};
 use ss_base::Memory;
@@ -14,7 +14,7 @@ use std::alloc::{AllocError, Global};
 // Enough for an entry's fields of fixed length and a stream's name, in bytes.
 const FIXED: usize = 128;
 
-/// The entry's text.
+/// The entry's text. An entry within the bounds has one, which [`crate::decode_entry`] reads again.
 pub fn encode_entry(alloc: Global, entry: &Entry) -> Result<Vec<u8>, Memory>
     requires { IsWithinBounds entry.now }
     ensures text { IfOk result (λ text. text.items ≡ entry_text entry.now) }
@@ -50,7 +50,7 @@ fn put_point(out: &mut Vec<u8>, point: &Point) -> Result<(), AllocError>
         Point::Begin { name, session } => put_fields!(out;
             1 => put_byte;
             name => put_stream_name;
-            session => put_session_reply;
+            session => put_reply;
         ),
         Point::Choose {
             session,
@@ -103,12 +103,12 @@ fn put_point(out: &mut Vec<u8>, point: &Point) -> Result<(), AllocError>
         Point::Delete { name, session } => put_fields!(out;
             6 => put_byte;
             name => put_stream_name;
-            session => put_session_reply;
+            session => put_reply;
         ),
         Point::Look { name, seen } => put_fields!(out;
             7 => put_byte;
             name => put_stream_name;
-            seen => put_seen_reply;
+            seen => put_reply;
         ),
         Point::Done { reader } => put_fields!(out;
             8 => put_byte;

@@ -1,16 +1,18 @@
-// What the lists of an entry are made of.
-ghost use Rattle.std.specs.Prelude.{◌≡◌, ◌++◌, OnOk};
-ghost use Rattle.history.specs.EntryText.{digest_text, manifest_text, container_text, object_text};
-ghost use Rattle.history.specs.Reading.{Gives, digest_at, manifest_at, container_at, object_at};
-ghost use Rattle.history.specs.Bounds.{IsDigest, FitsManifest, FitsContainer, FitsObject};
+// What the lists and the replies of an entry hold.
+ghost use Rattle.std.specs.Prelude.{◌≡◌, ◌<◌, ◌^◌, ◌++◌, OnOk};
+ghost use Rattle.std.specs.Int.{w32};
+ghost use Rattle.history.specs.EntryText.{number_text, digest_text, manifest_text, container_text, object_text, seen_text};
+ghost use Rattle.history.specs.Reading.{Gives, number_at, digest_at, manifest_at, container_at, object_at, seen_at};
+ghost use Rattle.history.specs.Bounds.{IsDigest, FitsManifest, FitsContainer, FitsObject, FitsSeen};
 
+use crate::Seen;
 use crate::fault::ReadError;
-use crate::reading::{container_at, digest_at, manifest_at, object_at};
-use crate::writing::{put_container, put_digest, put_manifest, put_object};
+use crate::reading::{container_at, digest_at, manifest_at, object_at, seen_at, u32_at};
+use crate::writing::{put_container, put_digest, put_manifest, put_object, put_seen, put_u32};
 use ss_base::{ContainerId, ManifestId, Name, Object};
 use std::alloc::AllocError;
 
-/// An item of a list, as bytes.
+/// A value that is read and written by itself.
 pub(crate) trait Item: Drop {
     ghost use Rattle.std.specs.Prelude.{List, ℕ};
     ghost use Rattle.history.specs.Reading.{Reader};
@@ -90,5 +92,37 @@ impl Item for Object {
 
     fn put(&self, out: &mut Vec<u8>) -> Result<(), AllocError> {
         put_object(out, self)
+    }
+}
+
+impl Item for u32 {
+    ghost item_text = { number_text w32 };
+
+    ghost item_at = { number_at w32 };
+
+    ghost fits = { λ n. n < 2 ^ 32 };
+
+    fn read(bytes: &[u8]) -> Result<(Self, &[u8]), ReadError> {
+        u32_at(bytes)
+    }
+
+    fn put(&self, out: &mut Vec<u8>) -> Result<(), AllocError> {
+        put_u32(out, self)
+    }
+}
+
+impl Item for Seen {
+    ghost item_text = { seen_text };
+
+    ghost item_at = { seen_at };
+
+    ghost fits = { FitsSeen };
+
+    fn read(bytes: &[u8]) -> Result<(Self, &[u8]), ReadError> {
+        seen_at(bytes)
+    }
+
+    fn put(&self, out: &mut Vec<u8>) -> Result<(), AllocError> {
+        put_seen(out, self)
     }
 }

@@ -1,4 +1,4 @@
-//! The history of a store.
+//! The history of a store: the entries of its journal, as values and as bytes.
 #![tactic(auto)]
 
 mod decoding;

@@ -144,20 +144,6 @@ pub(crate) fn object_at(bytes: &[u8]) -> Result<(Object, &[u8]), ReadError>
     }
 }
 
-#[tactic(auto, unfolding(crate::specs::Reading::reply_at))]
-pub(crate) fn session_reply_at(bytes: &[u8]) -> Result<(Option<u32>, &[u8]), ReadError>
-    ensures { Gives (λ x. (x.0, x.1.now)) result (reply_at (number_at w32) bytes.now) }
-{
-    match bytes {
-        [0, rest @ ..] => Ok((None, rest)),
-        [1, rest @ ..] => {
-            let (session, rest) = u32_at(rest)?;
-            Ok((Some(session), rest))
-        }
-        _ => Err(ReadError::NotEntry),
-    }
-}
-
 #[tactic(auto, unfolding(crate::specs::Reading::seen_at))]
 pub(crate) fn seen_at(rest: &[u8]) -> Result<(Seen, &[u8]), ReadError>
     ensures { Gives (λ x. (x.0, x.1.now)) result (seen_at rest.now) }
@@ -167,20 +153,6 @@ pub(crate) fn seen_at(rest: &[u8]) -> Result<(Seen, &[u8]), ReadError>
         session: u32_at();
     );
     Ok((Seen { reader, session }, rest))
-}
-
-#[tactic(auto, unfolding(crate::specs::Reading::reply_at))]
-pub(crate) fn seen_reply_at(bytes: &[u8]) -> Result<(Option<Seen>, &[u8]), ReadError>
-    ensures { Gives (λ x. (x.0, x.1.now)) result (reply_at seen_at bytes.now) }
-{
-    match bytes {
-        [0, rest @ ..] => Ok((None, rest)),
-        [1, rest @ ..] => {
-            let (seen, rest) = seen_at(rest)?;
-            Ok((Some(seen), rest))
-        }
-        _ => Err(ReadError::NotEntry),
-    }
 }
 
 #[tactic(auto, unfolding(crate::specs::Reading::totals_at))]
@@ -204,6 +176,21 @@ pub(crate) fn totals_at(rest: &[u8]) -> Result<(Totals, &[u8]), ReadError>
         entries,
     };
     Ok((totals, rest))
+}
+
+/// 0, or 1 and the value.
+#[tactic(auto, unfolding(crate::specs::Reading::reply_at))]
+pub(crate) fn reply_at<T: Item>(bytes: &[u8]) -> Result<(Option<T>, &[u8]), ReadError>
+    ensures { Gives (λ x. (x.0, x.1.now)) result (reply_at T.item_at bytes.now) }
+{
+    match bytes {
+        [0, after @ ..] => Ok((None, after)),
+        [1, after @ ..] => {
+            let (value, rest) = T::read(after)?;
+            Ok((Some(value), rest))
+        }
+        _ => Err(ReadError::NotEntry),
+    }
 }
 
 fn items_at<T: Item>(

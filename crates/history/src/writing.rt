@@ -104,20 +104,7 @@ pub(crate) fn put_object(out: &mut Vec<u8>, object: &Object) -> Result<(), Alloc
     }
 }
 
-pub(crate) fn put_session_reply(out: &mut Vec<u8>, session: &Option<u32>) -> Result<(), AllocError>
-    ensures text { OnOk result (out.new.items ≡ out.old.items ++ reply_text (number_text w32) session.now) }
-    ensures fits { OnOk result (IfSome session.now (λ s. s < 2 ^ 32)) }
-{
-    match session {
-        None => put_byte(out, 0),
-        Some(session) => put_fields!(out;
-            1 => put_byte;
-            session => put_u32;
-        ),
-    }
-}
-
-fn put_seen(out: &mut Vec<u8>, seen: &Seen) -> Result<(), AllocError>
+pub(crate) fn put_seen(out: &mut Vec<u8>, seen: &Seen) -> Result<(), AllocError>
     ensures text { OnOk result (out.new.items ≡ out.old.items ++ seen_text seen.now) }
     ensures fits { OnOk result (FitsSeen seen.now) }
 {
@@ -125,19 +112,6 @@ fn put_seen(out: &mut Vec<u8>, seen: &Seen) -> Result<(), AllocError>
         &seen.reader => put_u32;
         &seen.session => put_u32;
     )
-}
-
-pub(crate) fn put_seen_reply(out: &mut Vec<u8>, seen: &Option<Seen>) -> Result<(), AllocError>
-    ensures text { OnOk result (out.new.items ≡ out.old.items ++ reply_text seen_text seen.now) }
-    ensures fits { OnOk result (IfSome seen.now FitsSeen) }
-{
-    match seen {
-        None => put_byte(out, 0),
-        Some(seen) => put_fields!(out;
-            1 => put_byte;
-            seen => put_seen;
-        ),
-    }
 }
 
 pub(crate) fn put_totals(out: &mut Vec<u8>, totals: &Totals) -> Result<(), AllocError>
@@ -152,6 +126,20 @@ pub(crate) fn put_totals(out: &mut Vec<u8>, totals: &Totals) -> Result<(), Alloc
         &totals.reclaimed => put_u64;
         &totals.entries => put_u64;
     )
+}
+
+/// 0, or 1 and the value.
+pub(crate) fn put_reply<T: Item>(out: &mut Vec<u8>, reply: &Option<T>) -> Result<(), AllocError>
+    ensures text { OnOk result (out.new.items ≡ out.old.items ++ reply_text T.item_text reply.now) }
+    ensures fits { OnOk result (IfSome reply.now T.fits) }
+{
+    match reply {
+        None => put_byte(out, 0),
+        Some(value) => {
+            put_byte(out, 1)?;
+            value.put(out)
+        }
+    }
 }
 
 fn put_items<T: Item>(out: &mut Vec<u8>, items: &[T]) -> Result<(), AllocError>

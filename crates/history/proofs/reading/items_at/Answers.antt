@@ -1,4 +1,3 @@
-use Rattle.std.proofs.Common.{◌≡◌, ◌∙◌, ap, Some}
 use Rattle.std.proofs.lemmas.Result.{err_from_is_err_and}
 use Rattle.history.specs.Reading.{items_at}
 use Rattle.history.proofs.Loop.{goes_on, ends, is_done}
