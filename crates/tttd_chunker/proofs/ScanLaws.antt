@@ -1,15 +1,15 @@
 -- Laws of a search for the first cut that is carried from byte to byte.
-use Rattle.std.proofs.Common.{◌≡◌, ℕ, suc, ◌+◌, ◌-◌, ◌*◌, ◌/◌, ◌%◌, ◌<◌, ◌≤◌, Bool, true, false, List, [], ◌∷◌, ◌++◌, length, take, drop, get_or, min, Option, Some, None, MatchOption, unwrap_or, refl, sym, ap, ◌∙◌, subst, arith, length-take, length-drop, length-append, drop-cons, add-one}
+use Rattle.std.proofs.Common.{◌≡◌, ℕ, suc, ◌+◌, ◌-◌, ◌*◌, ◌/◌, ◌%◌, ◌<◌, ◌≤◌, Bool, true, false, List, [], ◌∷◌, ◌++◌, length, take, drop, get_or, Option, Some, None, MatchOption, sym, ap, ◌∙◌, arith, length-take, length-drop, drop-cons}
 use Rattle.std.specs.Prelude.{◌==◌}
-use Rattle.std.proofs.lemmas.Bool.{eqb-true, ne_eqb, eq-eqb, false≢true, cases_Bool, cases_lt}
+use Rattle.std.proofs.lemmas.Bool.{ne_eqb, eq-eqb, false≢true, cases_lt}
 use Rattle.std.proofs.lemmas.List.{take_more, get_or-drop}
 use Rattle.std.proofs.lemmas.Nat.{mod-mul-add, div-add-mod'}
 use mathlib.Core.Logic.{⊎_elim}
 use Rattle.ss_base.specs.declared.profile.Numbers.{Numbers}
 use Rattle.ss_base.specs.Profile.{AreSound}
-use Rattle.ss_base.specs.Search.{greatest, NonePasses, IsLeast, IsGreatest}
+use Rattle.ss_base.specs.Search.{greatest, NonePasses, IsGreatest}
 use Rattle.ss_base.proofs.SearchLaws.{greatest-is, greatest-one, greatest-none}
-use Rattle.roll_hash.specs.Fingerprint.{fingerprint, window_sum}
+use Rattle.roll_hash.specs.Fingerprint.{fingerprint}
 use Rattle.tttd_chunker.specs.Cut.{window, meets, meets_main, meets_backup}
 
 -- how the window goes on by one byte

@@ -1,16 +1,16 @@
 -- Laws of a stream that goes on: where the first chunk has ended, what follows doesn't change it.
-use Rattle.std.proofs.Common.{◌≡◌, ℕ, suc, ◌+◌, ◌-◌, ◌<◌, ◌≤◌, Bool, true, false, ◌||◌, min, List, [], ◌∷◌, ◌++◌, length, take, drop, get_or, Option, Some, None, MatchOption, is_some, unwrap_or, refl, sym, ap, ◌∙◌, subst, arith, length-take, length-drop, length-append}
+use Rattle.std.proofs.Common.{◌≡◌, ℕ, ◌-◌, ◌<◌, ◌≤◌, Bool, true, false, ◌||◌, min, List, [], ◌∷◌, ◌++◌, length, take, drop, Option, Some, None, MatchOption, is_some, refl, sym, ap, ◌∙◌, subst, arith, length-drop, length-append}
 use Rattle.std.specs.Prelude.{◌%◌, ◌==◌, nat_le}
 use Rattle.std.proofs.Math.Seq.{take-length, drop-length}
 use Rattle.roll_hash.specs.Fingerprint.{fingerprint}
 use Rattle.std.proofs.lemmas.Bool.{le-leb, lt-leb, false≢true, cases_lt}
 use mathlib.Core.Logic.{⊎_elim}
-use Rattle.std.proofs.lemmas.List.{take-append-le, drop-append-le, take_all}
+use Rattle.std.proofs.lemmas.List.{take-append-le, drop-append-le}
 use Rattle.ss_base.specs.declared.profile.Numbers.{Numbers}
 use Rattle.ss_base.specs.Profile.{AreSound}
-use Rattle.ss_base.specs.Search.{least, greatest, NonePasses, IsLeast, IsGreatest}
+use Rattle.ss_base.specs.Search.{least, greatest, NonePasses, IsGreatest}
 use Rattle.ss_base.proofs.SearchLaws.{least-one, least-none, greatest-is, greatest-one, greatest-none}
-use Rattle.tttd_chunker.specs.Cut.{window, meets, meets_main, meets_backup, first_cut, has_cut, cut}
+use Rattle.tttd_chunker.specs.Cut.{window, meets, meets_main, first_cut, has_cut, cut}
 use Rattle.tttd_chunker.specs.IsCut.{HasNoMain, IsFirstCut, by_main, by_end, by_backup, by_threshold}
 use Rattle.tttd_chunker.proofs.CutLaws.{first_cut-is, first_cut-one, first_cut-within, cut-first, cut-nil}
 
@@ -131,11 +131,14 @@ pub has_cut-append : (n : Numbers) (bytes more : List ℕ) → has_cut n bytes �
 has_cut-append n bytes more known = has_ended n bytes more (first_cut n bytes) known (first_cut-is n bytes)
 
 -- bytes that are none have no cut
-pub has_cut-some : (n : Numbers) (bytes : List ℕ) → AreSound n → has_cut n bytes ≡ true → 0 < length bytes
-has_cut-some n [] sound known =
+pub has_cut-nil : (n : Numbers) → AreSound n → has_cut n [] ≡ false
+has_cut-nil n sound =
     let e = sound.window in
     let f = sound.thresholds in
-    absurd (false≢true (sym (has_cut-none n [] (record { none = λ j a b. absurd (omega arith) }) (omega arith)) ∙ known))
+    has_cut-none n [] (record { none = λ j a b. absurd (omega arith) }) (omega arith)
+
+pub has_cut-some : (n : Numbers) (bytes : List ℕ) → AreSound n → has_cut n bytes ≡ true → 0 < length bytes
+has_cut-some n [] sound known = absurd (false≢true (sym (has_cut-nil n sound) ∙ known))
 has_cut-some n (x ∷ xs) sound known = omega arith
 
 -- a chunk that has ended leaves the stream

@@ -1,5 +1,5 @@
 -- How a chunker keeps its pending bytes.
-use Rattle.std.specs.Prelude.{ℕ, ◌≤◌, List, drop, length}
+use Rattle.std.specs.Prelude.{◌≤◌, drop, length}
 use Rattle.ss_base.specs.Profile.{numbers_of}
 use Rattle.tttd_chunker.specs.Scanned.{IsProgress}
 use Rattle.tttd_chunker.specs.Pending.{Pending}

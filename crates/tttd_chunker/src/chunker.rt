@@ -1,5 +1,5 @@
 // The cut of a stream that comes in pieces.
-ghost use Rattle.std.specs.Prelude.{◌≡◌, ℕ, ◌<◌, ◌≤◌, ◌↔◌, false, List, [], ◌∷◌, ◌++◌, length, drop, is_some, IsSome, IfOk, IfSome, IfNone, OnOk, OnErr};
+ghost use Rattle.std.specs.Prelude.{◌≡◌, ℕ, ◌<◌, ◌≤◌, ◌↔◌, false, List, [], ◌∷◌, ◌++◌, length, drop, is_some, IsSome, IfOk, IfSome, IfNone, MatchOption, OnOk, OnErr};
 ghost use Rattle.ss_base.specs.Profile.{numbers_of};
 ghost use Rattle.tttd_chunker.specs.Cut.{has_cut, cut};
 
@@ -35,7 +35,9 @@ impl Model for Chunker {
 impl Chunker {
     /// A chunker with nothing pending.
     pub fn new(alloc: Global, profile: Profile) -> Result<Chunker, Memory>
-        ensures { IfOk result (λ chunker. (chunker.profile ≡ profile) × (chunker.bytes ≡ [])) }
+        ensures profile { IfOk result (λ chunker. chunker.profile ≡ profile) }
+        ensures bytes { IfOk result (λ chunker. chunker.bytes ≡ []) }
+        ensures open { IfOk result (λ chunker. has_cut (numbers_of profile) chunker.bytes ≡ false) }
     {
         Ok(Chunker {
             profile,
@@ -96,8 +98,9 @@ impl Chunker {
         ensures ok { OnOk result (self.new.bytes ≡ []) }
         ensures err { OnErr result (self.new.bytes ≡ self.old.bytes) }
 
-        // The stream ends here, and its last chunk is this one.
-        ensures cut { IfOk result (λ found. IfSome found (λ chunk. cut (numbers_of self.old.profile) self.old.bytes ≡ chunk.items ∷ [])) }
+        // The stream ends here.
+        ensures cut { IfOk result (λ found. MatchOption found (cut (numbers_of self.old.profile) self.old.bytes ≡ [])
+            (λ chunk. cut (numbers_of self.old.profile) self.old.bytes ≡ chunk.items ∷ [])) }
         ensures sized { IfOk result (λ found. IfSome found (λ chunk. length chunk.items < (numbers_of self.old.profile).tmax)) }
     {
         if self.start == self.buffer.len() {

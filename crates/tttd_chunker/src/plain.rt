@@ -8,8 +8,8 @@ use roll_hash::fingerprint;
 use ss_base::{Memory, Numbers, Profile};
 use std::alloc::Global;
 
-/// The chunks of these bytes, in order. Only want of memory is an error.
-pub fn cut_all(alloc: Global, profile: Profile, bytes: &[u8]) -> Result<Vec<Vec<u8>>, Memory>
+/// The chunks of these bytes, in order, as `cut_all` gives them, found slowly. Only want of memory is an error.
+pub fn cut_plainly(alloc: Global, profile: Profile, bytes: &[u8]) -> Result<Vec<Vec<u8>>, Memory>
     ensures { IfOk result (λ chunks. map (λ c. c.items) chunks.items ≡ cut (numbers_of profile) bytes.now) }
 {
     let numbers = profile.numbers();

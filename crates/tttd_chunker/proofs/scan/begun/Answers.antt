@@ -1,4 +1,4 @@
-use Rattle.std.proofs.Common.{◌≡◌, ◌<◌, ◌≤◌, ◌∙◌, refl, sym, true, false, arith}
+use Rattle.std.proofs.Common.{◌≡◌, ◌∙◌, refl, sym, true, false, arith}
 use Rattle.roll_hash.specs.Fingerprint.{window_sum}
 use Rattle.tttd_chunker.specs.Cut.{window, meets_main, meets_backup}
 use Rattle.tttd_chunker.proofs.ScanLaws.{backup-main, greatest-last}

@@ -1,4 +1,4 @@
-use Rattle.std.proofs.Common.{◌≡◌, ◌≤◌, min, length, sym, subst, ◌∙◌}
+use Rattle.std.proofs.Common.{min, length, sym, subst}
 use Rattle.tttd_chunker.specs.Scanned.{IsScannedTo, IsKnown}
 use Rattle.tttd_chunker.proofs.ProgressLaws.{known-main, known-full, open-end}
 use Rattle.tttd_chunker.proofs.scan.decided.Goals as goal

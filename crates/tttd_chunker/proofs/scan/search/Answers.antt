@@ -1,4 +1,4 @@
-use Rattle.std.proofs.Common.{◌≡◌, ◌≤◌, ◌<◌, ◌+◌, ◌∙◌, ap, sym, subst, min, length, Option, Some, None, MatchOption, unwrap_or, ℕ, true, false, arith}
+use Rattle.std.proofs.Common.{◌≤◌, ◌+◌, ◌∙◌, ap, sym, subst, length, Option, MatchOption, unwrap_or, ℕ, arith}
 use Rattle.ss_base.specs.Search.{NonePasses, IsLeast}
 use Rattle.roll_hash.specs.Fingerprint.{window_sum}
 use Rattle.tttd_chunker.specs.Cut.{window, meets_main, meets_backup}

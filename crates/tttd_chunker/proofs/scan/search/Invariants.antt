@@ -1,4 +1,4 @@
-use Rattle.std.proofs.Common.{◌≡◌, ◌-◌, ◌≤◌}
+use Rattle.std.proofs.Common.{◌-◌, ◌≤◌}
 use Rattle.tttd_chunker.specs.Scanned.{HasScanned}
 use Rattle.tttd_chunker.proofs.scan.search.Given as goal
 

@@ -1,6 +1,3 @@
-use Rattle.std.proofs.Common.{◌∙◌, ap}
-use Rattle.tttd_chunker.specs.Cut.{has_cut}
-use Rattle.ss_base.specs.Profile.{numbers_of}
 use Rattle.tttd_chunker.proofs.KeptLaws.{leaves-pending}
 use Rattle.tttd_chunker.proofs.chunker.Chunker.next.Goals as goal
 

@@ -1,4 +1,4 @@
-use Rattle.std.proofs.Common.{◌≡◌, ◌≤◌, ◌++◌, drop, length, length-append, ◌∙◌, sym, ap, subst, arith}
+use Rattle.std.proofs.Common.{◌≡◌, ◌++◌, drop, length, length-append, ◌∙◌, sym, ap, subst, arith}
 use Rattle.std.proofs.lemmas.List.{drop-append-le}
 use Rattle.ss_base.specs.Profile.{numbers_of}
 use Rattle.tttd_chunker.specs.Scanned.{IsProgress}

@@ -3,7 +3,7 @@ use Rattle.std.proofs.lemmas.Bool.{eqb-true, eqb-false}
 use Rattle.std.proofs.lemmas.List.{map-append, take_all, nil_from_length}
 use Rattle.tttd_chunker.specs.Cut.{cut}
 use Rattle.tttd_chunker.proofs.CutLaws.{cut-advance, cut-nil}
-use Rattle.tttd_chunker.proofs.plain.cut_all.Goals as goal
+use Rattle.tttd_chunker.proofs.plain.cut_plainly.Goals as goal
 
 pub loop-rest-preserved : goal.loop-rest-preserved
 loop-rest-preserved c =

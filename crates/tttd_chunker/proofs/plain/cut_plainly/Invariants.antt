@@ -1,6 +1,6 @@
 use Rattle.std.proofs.Common.{◌≡◌, ◌++◌, map, length}
 use Rattle.tttd_chunker.specs.Cut.{cut}
-use Rattle.tttd_chunker.proofs.plain.cut_all.Given as goal
+use Rattle.tttd_chunker.proofs.plain.cut_plainly.Given as goal
 
 -- the chunks so far, and those of the rest, are those of all
 abbrev pub invariant-loop-rest : goal.invariant-loop-rest
