@@ -51,7 +51,7 @@ impl Chunker {
     pub fn push(&mut self, bytes: &[u8]) -> Result<(), Memory>
         ensures profile { self.new.profile ≡ self.old.profile }
         ensures ok { OnOk result (self.new.bytes ≡ self.old.bytes ++ bytes.now) }
-        ensures err { OnErr result (self.new.bytes ≡ self.old.bytes) }
+        ensures err { OnErr result (self.new ≡ self.old) }
     {
         self.start = compact(&mut self.buffer, self.start);
         self.buffer.extend_from_slice(bytes)?;
@@ -65,7 +65,7 @@ impl Chunker {
         ensures found { IfOk result (λ chunk. is_some chunk ≡ has_cut (numbers_of self.old.profile) self.old.bytes) }
         ensures taken { IfOk result (λ found. IfSome found (λ chunk. self.old.bytes ≡ chunk.items ++ self.new.bytes)) }
         ensures none { IfOk result (λ found. IfNone found (self.new.bytes ≡ self.old.bytes)) }
-        ensures err { OnErr result (self.new.bytes ≡ self.old.bytes) }
+        ensures err { OnErr result (self.new ≡ self.old) }
 
         // However the stream goes on, the chunk is the first of its cut.
         ensures cut { IfOk result (λ found. IfSome found (λ chunk. (more : List ℕ) →
@@ -96,7 +96,7 @@ impl Chunker {
         ensures found { IfOk result (λ found. IsSome found ↔ (0 < length self.old.bytes)) }
         ensures chunk { IfOk result (λ found. IfSome found (λ chunk. chunk.items ≡ self.old.bytes)) }
         ensures ok { OnOk result (self.new.bytes ≡ []) }
-        ensures err { OnErr result (self.new.bytes ≡ self.old.bytes) }
+        ensures err { OnErr result (self.new ≡ self.old) }
 
         // The stream ends here.
         ensures cut { IfOk result (λ found. MatchOption found (cut (numbers_of self.old.profile) self.old.bytes ≡ [])
