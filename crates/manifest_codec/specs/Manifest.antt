@@ -1,5 +1,5 @@
 -- What a manifest lists.
-use Rattle.std.specs.Prelude.{◌≡◌, ℕ, ◌≤◌, List, length}
+use Rattle.std.specs.Prelude.{◌≡◌, ◌≤◌, List, length}
 use Rattle.std.specs.List.{All}
 use Rattle.ss_base.specs.declared.ids.Place.{Place}
 use Rattle.ss_base.specs.declared.name.Piece.{Piece}

@@ -1,0 +1,2 @@
+mod FixedLaws
+pub mod TextLaws
