@@ -1,6 +1,7 @@
 -- How counts of faults go on over several calls.
-use Rattle.std.proofs.Common.{ℕ, ◌+◌, ◌≤◌, inl, inr, arith}
-use Rattle.outside.specs.Faults.{Rose, RoseBy}
+use Rattle.std.proofs.Common.{ℕ, ◌+◌, ◌≤◌, Result, inl, inr, arith}
+use Rattle.outside.specs.Faults.{Rose, RoseBy, HasCause}
+use Rattle.outside.specs.declared.trouble.Trouble.{Trouble}
 
 -- it rose in an earlier call
 pub Rose-before : (a b c : ℕ) → Rose a b → b ≤ c → Rose a c
@@ -11,6 +12,14 @@ Rose-before a b c (inr last) later = inr (omega arith)
 pub Rose-after : (a b c : ℕ) → a ≤ b → Rose b c → Rose a c
 Rose-after a b c later (inl rose) = inl (omega arith)
 Rose-after a b c later (inr last) = inr last
+
+-- a call's cause stands for what began earlier
+pub HasCause-after : {T : Type 0} (a b c : ℕ) (result : Result T Trouble) → a ≤ b → HasCause b c result → HasCause a c result
+HasCause-after a b c result later cause = record { later = omega (arith, cause.later); fault = λ is. Rose-after a b c later (cause.fault is) }
+
+-- and for what ends later
+pub HasCause-before : {T : Type 0} (a b c : ℕ) (result : Result T Trouble) → HasCause a b result → b ≤ c → HasCause a c result
+HasCause-before a b c result cause later = record { later = omega (arith, cause.later); fault = λ is. Rose-before a b c (cause.fault is) later }
 
 -- to rise once is to rise by one
 pub RoseBy-one : (a b : ℕ) → Rose a b → RoseBy 1 a b
@@ -31,3 +40,6 @@ RoseBy-sum m n a b c rose later (inr last) = inr last
 pub RoseBy-fewer : (m n a b : ℕ) → RoseBy n a b → m ≤ n → RoseBy m a b
 RoseBy-fewer m n a b (inl rose) le = inl (omega arith)
 RoseBy-fewer m n a b (inr last) le = inr last
+
+-- causes over several calls
+pub ruleset causes = (Rose-before, Rose-after, HasCause-before, HasCause-after)

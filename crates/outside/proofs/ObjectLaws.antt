@@ -92,3 +92,6 @@ with_added-with_object None name first second = refl
 with_added-with_object (Some objects) name first second = ap Some (
     ap (λ bytes. map.insert (map.insert objects name first) name (bytes ++ second)) (bytes_of-insert_same objects name first)
     ∙ insert_twice objects name first (first ++ second))
+
+-- one object in several pieces
+pub ruleset pieces = (with_added-with_added, with_added-with_object)

@@ -67,7 +67,7 @@ where
 
     fn has(&mut self, name: &str) -> Result<bool, Trouble> {
         let path = path_of(&mut self.faults, &self.folder, name)?;
-        counted(&mut self.faults, fs::exists(self.rt, path.as_str()))
+        counted(&mut self.faults, is_there(self.rt, &path))
     }
 
     fn read(&mut self, alloc: Global, name: &str, at: u64, max: usize) -> Result<Vec<u8>, Trouble> {
@@ -129,6 +129,20 @@ fn path_of(faults: &mut u64, folder: &String, name: &str) -> Result<String, Trou
     Ok(path)
 }
 
+// Whether this is what std answers of a file that is not there.
+fn is_absent(e: &io::Error) -> bool {
+    matches!(e.kind(), ErrorKind::NotFound | ErrorKind::NotADirectory)
+}
+
+// Whether there is such a file. It is not opened.
+fn is_there(rt: &impl Files, path: &str) -> io::Result<bool> {
+    match fs::metadata(rt, path) {
+        Ok(_) => Ok(true),
+        Err(e) if is_absent(&e) => Ok(false),
+        Err(e) => Err(e),
+    }
+}
+
 // One open and one read at a place. A file that is not there gives no bytes.
 fn read_file<R: Files>(rt: &R, path: &str, at: u64, bytes: &mut [u8]) -> io::Result<usize>
 where
@@ -137,7 +151,7 @@ where
 {
     match fs::open(rt, path) {
         Ok(file) => file.read_at(bytes, at),
-        Err(e) if e.kind() == ErrorKind::NotFound => Ok(0),
+        Err(e) if is_absent(&e) => Ok(0),
         Err(e) => Err(e),
     }
 }
@@ -151,7 +165,7 @@ fn append_file(rt: &impl Files, path: &str, bytes: &[u8]) -> io::Result<()> {
 // That the file is not there is no cause of an `Err`.
 fn remove_file(rt: &impl Files, path: &str) -> io::Result<()> {
     match fs::remove_file(rt, path) {
-        Err(e) if e.kind() == ErrorKind::NotFound => Ok(()),
+        Err(e) if is_absent(&e) => Ok(()),
         answer => answer,
     }
 }

@@ -1,6 +1,7 @@
 // Each object on its happy path, with a call that fails in mid-stream, and past the end.
-ghost use Rattle.std.specs.Prelude.{◌≡◌, ◌≤◌};
+ghost use Rattle.std.specs.Prelude.{◌≡◌, ◌≤◌, ◌++◌, OnOk};
 ghost use Rattle.outside.specs.Faults.{HasCause};
+ghost use Rattle.outside.specs.Shelf.{with_object};
 
 use crate::{
     DirShelf, MemShelf, MemSink, MemSource, ReadSource, Shelf, ShelfSource, Sink, Source, Trouble,
@@ -123,6 +124,21 @@ fn first_bytes<F: Shelf>(alloc: Global, files: &mut F, name: &str) -> Result<Vec
     source.read(alloc, 2)
 }
 
+// What a caller knows of an object that it made in two pieces.
+#[tactic(auto, using(crate::proofs::ObjectLaws::pieces, crate::proofs::FaultLaws::causes))]
+fn made_in_two<F: Shelf>(
+    shelf: &mut F,
+    name: &str,
+    first: &[u8],
+    second: &[u8],
+) -> Result<(), Trouble>
+    ensures ok { OnOk result (F.held shelf.new ≡ with_object (F.held shelf.old) name.now (first.now ++ second.now)) }
+    ensures cause { HasCause (F.faults shelf.old) (F.faults shelf.new) result }
+{
+    shelf.create(name, first)?;
+    shelf.append(name, second)
+}
+
 fn reads<F: Shelf>(
     rt: &impl Abort,
     alloc: Global,
@@ -136,7 +152,11 @@ fn reads<F: Shelf>(
 }
 
 // Every call of a shelf, on objects that are absent, empty and not empty.
-fn uses_all_calls<F: Shelf>(rt: &impl Abort, alloc: Global, shelf: &mut F) -> Result<(), Trouble> {
+fn uses_all_calls<F: Shelf + Send>(
+    rt: &impl Abort,
+    alloc: Global,
+    shelf: &mut F,
+) -> Result<(), Trouble> {
     assert!(rt; !shelf.has("a")?);
     reads(rt, alloc, shelf, ("a", 0, 9), b"")?;
     shelf.erase("a")?;
@@ -167,9 +187,10 @@ fn a_shelf_in_memory_holds_objects(rt: HostRuntime) -> Result<(), Fail> {
     let alloc = rt.alloc();
     let mut shelf = MemShelf::new(alloc, vec![in alloc]?);
     uses_all_calls(&rt, alloc, &mut shelf)?;
-    shelf.set("in", b"chunks")?;
+    shelf.set("in", b"old")?;
     assert_eq!(rt; shelf.get("new").map(|x| x.len()), Some(1));
     assert_eq!(rt; shelf.get("a").map(|x| x.len()), None);
+    made_in_two(&mut shelf, "in", b"chu", b"nks")?;
     let first = first_bytes(alloc, &mut shelf, "in")?;
     assert_eq!(rt; first.as_slice(), b"ch".as_slice());
     Ok(())
@@ -209,7 +230,10 @@ fn a_folder_is_a_shelf(rt: HostRuntime) -> Result<(), Fail> {
     fs::create_dir(&rt, "outside_a_folder_is_a_shelf/sub")?;
     let mut shelf = DirShelf::new(&rt, String::from_str(alloc, folder)?);
     uses_all_calls(&rt, alloc, &mut shelf)?;
-    // A folder is there and can't be read, and no name leads out.
+    // Nothing is in a file. A folder is there and can't be read, and no name leads out.
+    assert_eq!(rt; shelf.has("new/x"), Ok(false));
+    reads(&rt, alloc, &mut shelf, ("new/x", 0, 9), b"")?;
+    assert_eq!(rt; shelf.erase("new/x"), Ok(()));
     assert_eq!(rt; shelf.has("sub"), Ok(true));
     assert!(rt; shelf.read(alloc, "sub", 0, 9).is_err());
     assert_eq!(rt; shelf.create("sub", b""), Err(Trouble::Fault));
