@@ -570,3 +570,14 @@ fn no_part_is_an_entry(rt: HostRuntime) -> Result<(), Fail> {
     }
     Ok(())
 }
+
+#[test]
+fn items_and_law(rt: HostRuntime) -> Result<(), Fail> {
+    let alloc = rt.alloc();
+    let items = Items::new(Vec::from_array(alloc, [1u8, 2])?);
+    assert!(rt; items == Items::new(Vec::from_array(alloc, [1, 2])?));
+    assert!(rt; items != Items::new(Vec::from_array(alloc, [2, 1])?));
+    assert_eq!(rt; items.into_vec().as_slice(), [1, 2].as_slice());
+    one_reading();
+    Ok(())
+}
