@@ -24,6 +24,7 @@ pub record AreCounts (chunks bytes fresh fresh_bytes : ℕ) : Type 0 where
   pub fresh_chunks : fresh ≤ chunks
   pub fresh_part : fresh_bytes ≤ bytes
 
+-- lists that are short enough for their counts, and the numbers of a commit
 abbrev pub PointIsWithinBounds : Point → Type 0
 PointIsWithinBounds (Choose session hooks champions) = (length hooks ≤ 4096) × (length champions ≤ 255)
 PointIsWithinBounds (Commit manifest content text chunks bytes fresh fresh_bytes uses) =
@@ -59,6 +60,7 @@ pub record FitTotals (t : Totals) : Type 0 where
   pub reclaimed : t.reclaimed < 2 ^ 64
   pub entries : t.entries < 2 ^ 64
 
+-- each field fits its place: numbers their widths, digests 32 bytes, and names are stream names
 abbrev pub PointFits : Point → Type 0
 PointFits (Begin name session) = IsStreamName name × IfSome session (λ s. s < 2 ^ 32)
 PointFits (Choose session hooks champions) =

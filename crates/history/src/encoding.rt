@@ -11,8 +11,8 @@ use crate::{Entry, Point};
 use ss_base::Memory;
 use std::alloc::{AllocError, Global};
 
-// Enough for an entry's fields of fixed length and a stream's name, in bytes.
-const FIXED: usize = 128;
+// Enough for the fields of any entry but a list of hooks, champions or uses, in bytes.
+const FIXED: usize = 160;
 
 /// The entry's text. An entry within the bounds has one, which [`crate::decode_entry`] reads again.
 pub fn encode_entry(alloc: Global, entry: &Entry) -> Result<Vec<u8>, Memory>
