@@ -1,2 +1,3 @@
 mod FixedLaws
 pub mod TextLaws
+mod ContainersLaws

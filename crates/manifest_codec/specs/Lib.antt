@@ -1,4 +1,5 @@
 pub mod Manifest
 pub mod PiecesPart
 pub mod Text
+pub mod Containers
 pub use Rattle.chunk_name.specs.Pieces

@@ -49,13 +49,35 @@ fn text_of_four_chunks(rt: HostRuntime) -> Result<(), Fail> {
 }
 
 fn place(offset: u32) -> Place {
+    place_in(0, 0, offset)
+}
+
+fn place_in(session: u32, ordinal: u32, offset: u32) -> Place {
     Place {
-        container: ContainerId {
-            session: 0,
-            ordinal: 0,
-        },
+        container: ContainerId { session, ordinal },
         offset,
     }
+}
+
+#[test]
+fn containers_ascend(rt: HostRuntime) -> Result<(), Fail> {
+    let alloc = rt.alloc();
+    let b = piece_of(b"b");
+    let pieces = vec![in alloc; b, b, b, b]?;
+    let places = vec![in alloc;
+        place_in(10, 0, 52),
+        place_in(9, 4, 52),
+        place_in(10, 0, 344),
+        place_in(9, 2, 9),
+    ]?;
+    assert!(rt; b.len == 1);
+    let found = containers(alloc, &Manifest { pieces, places })?;
+    let expected = [(9, 2), (9, 4), (10, 0)];
+    assert_eq!(rt; found.len(), expected.len());
+    for (id, (session, ordinal)) in found.iter().zip(expected) {
+        assert_eq!(rt; *id, ContainerId { session, ordinal });
+    }
+    Ok(())
 }
 
 #[test]
