@@ -1,4 +1,5 @@
-mod PrintingLaws
-mod LinesLaws
-mod SizedLaws
+mod AdvancesLaws
+mod AnswerLaws
+mod FeedLaws
+mod ResultLaws
 mod StatusLaws

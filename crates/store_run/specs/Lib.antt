@@ -1,7 +1,10 @@
+pub mod Advances
 pub mod Command
+pub mod Feed
+pub mod Halt
+pub mod LinePrinter
 pub mod Lines
 pub mod Output
-pub mod Printing
 pub mod Run
-pub mod Source
+pub mod SegmentLines
 pub mod Stop

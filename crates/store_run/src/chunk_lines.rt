@@ -5,7 +5,7 @@ use ss_base::Memory;
 use std::alloc::Global;
 
 /// What makes lines of a stream's chunks while they come.
-pub trait ChunkLines {
+pub trait ChunkLines: Drop {
     /// The lines of the stream whose further chunks are these.
     ghost text: { Self → List (List ℕ) → List ℕ };
 

@@ -10,6 +10,8 @@ use ss_base::Profile;
 pub enum Command {
     /// `names P`: one line for each chunk of the source.
     Names(Profile),
+    /// `segments P`: one line for each segment of the source.
+    Segments(Profile),
 }
 
 /// The command with these words. `None` comes exactly where no command has them.
@@ -23,6 +25,7 @@ pub fn command_of(words: &[String]) -> Option<Command>
     let profile = profile_of(profile.as_str())?;
     match verb.as_str() {
         "names" => Some(Command::Names(profile)),
+        "segments" => Some(Command::Segments(profile)),
         _ => None,
     }
 }

@@ -3,10 +3,12 @@
 
 mod chunk_lines;
 mod command;
+mod feed_source;
+mod line_printer;
 mod names;
 mod printing;
 mod run;
-mod source;
+mod segments;
 mod stop;
 
 pub use command::{Command, command_of};

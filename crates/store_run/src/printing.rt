@@ -1,9 +1,9 @@
 // Text that is written in large pieces.
-ghost use Rattle.std.specs.Prelude.{◌≡◌, ◌≤◌, ◌++◌, map, vec_len, All, OnOk, OnErr};
+ghost use Rattle.std.specs.Prelude.{◌≡◌, ◌≤◌, ◌++◌, ◌∷◌, [], ℕ, List, length, OnOk, OnErr};
 ghost use Rattle.std.specs.Io.KnownBytes.{Appends};
 ghost use Rattle.outside.specs.Bytes.{AppendsFront};
 ghost use Rattle.outside.specs.Faults.{HasCause};
-ghost use Rattle.store_run.specs.Printing.{Moves};
+ghost use Rattle.store_run.specs.Advances.{Advances, Moves};
 
 use crate::chunk_lines::ChunkLines;
 use outside::{Sink, Trouble, write_all};
@@ -12,31 +12,47 @@ use std::alloc::Global;
 // Text is written once this many bytes wait.
 const BATCH: usize = 65_536;
 
-/// Prints the lines of these chunks, which are all of a stream's. After an `Err` a front of the lines may have been
-/// written.
-pub fn print_chunks<L: ChunkLines, O: Sink>(
+/// Prints the lines that are whole with this chunk. After an `Err` a front of what waits and of the lines to come may
+/// have been written.
+pub fn print_chunk<L: ChunkLines, O: Sink>(
     alloc: Global,
     lines: &mut L,
-    chunks: &[Vec<u8>],
+    waiting: &mut Vec<u8>,
+    chunk: &[u8],
     out: &mut O,
 ) -> Result<(), Trouble>
-    requires { All (λ chunk. (1 ≤ vec_len chunk) × (vec_len chunk ≤ L.most lines.old)) chunks.now }
-    ensures ok { OnOk result (Appends (O.written out.old) (O.written out.new) (L.text lines.old (map (λ chunk. chunk.items) chunks.now))) }
-    ensures err { OnErr result (AppendsFront (O.written out.old) (O.written out.new) (L.text lines.old (map (λ chunk. chunk.items) chunks.now))) }
+    requires some { 1 ≤ length chunk.now }
+    requires fits { length chunk.now ≤ L.most lines.old }
+    ensures most { L.most lines.new ≡ L.most lines.old }
+    ensures ok { OnOk result (Advances (O.written out.old) (O.written out.new)
+        (λ later. waiting.old.items ++ L.text lines.old (chunk.now ∷ later)) (λ later. waiting.new.items ++ L.text lines.new later)) }
+    ensures err { OnErr result ((later : List (List ℕ)) →
+        AppendsFront (O.written out.old) (O.written out.new) (waiting.old.items ++ L.text lines.old (chunk.now ∷ later))) }
     ensures cause { HasCause (O.faults out.old) (O.faults out.new) result }
 {
-    let mut waiting = Vec::new(alloc);
-    for chunk in chunks {
-        let text = lines.add(alloc, chunk)?;
-        print_text(out, &mut waiting, text.as_bytes())?;
-    }
-    let text = lines.rest(alloc)?;
-    print_text(out, &mut waiting, text.as_bytes())?;
-    write_all(out, &waiting)
+    let text = lines.add(alloc, chunk)?;
+    print_text(out, waiting, text.as_bytes())
 }
 
-/// Adds text to what waits, and writes what waits once it is long enough. After an `Err` a front of both may have
-/// been written.
+/// Prints what waits and the lines that are left at the stream's end. After an `Err` a front of them may have been
+/// written.
+pub fn print_rest<L: ChunkLines, O: Sink>(
+    alloc: Global,
+    lines: &mut L,
+    waiting: &mut Vec<u8>,
+    out: &mut O,
+) -> Result<(), Trouble>
+    ensures ok { OnOk result (Appends (O.written out.old) (O.written out.new) (waiting.old.items ++ L.text lines.old [])) }
+    ensures err { OnErr result (AppendsFront (O.written out.old) (O.written out.new) (waiting.old.items ++ L.text lines.old [])) }
+    ensures cause { HasCause (O.faults out.old) (O.faults out.new) result }
+{
+    let text = lines.rest(alloc)?;
+    waiting.extend_from_slice(text.as_bytes())?;
+    write_all(out, waiting)
+}
+
+// Adds text to what waits, and writes what waits once it is long enough. After an `Err` a front of both may have
+// been written.
 fn print_text<O: Sink>(out: &mut O, waiting: &mut Vec<u8>, text: &[u8]) -> Result<(), Trouble>
     ensures ok { OnOk result (Moves (O.written out.old) (O.written out.new) waiting.old.items waiting.new.items text.now) }
     ensures err { OnErr result (AppendsFront (O.written out.old) (O.written out.new) (waiting.old.items ++ text.now)) }

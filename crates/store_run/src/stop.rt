@@ -5,8 +5,10 @@ ghost use Rattle.outside.specs.Bytes.{AppendsFront};
 ghost use Rattle.outside.specs.Faults.{Rose};
 ghost use Rattle.store_run.specs.Stop.{fault_line, status_of, stop_of};
 ghost use Rattle.store_run.specs.declared.stop.Stop.TheVariants.{Memory};
+ghost use Rattle.store_run.specs.declared.stop.Halt.TheVariants.{Early, Unprinted};
 
 use outside::Trouble;
+use ss_base::Memory as OutOfMemory;
 use std::alloc::AllocError;
 
 /// Why a run ends before it has printed its output.
@@ -63,5 +65,30 @@ impl Stop {
             Stop::Memory => 8,
             Stop::SourceFault => 12,
         }
+    }
+}
+
+/// Why the printing of a stream's lines ends before all of them are written.
+#[derive(Clone, Copy, Debug, PartialEq, Eq)]
+pub enum Halt {
+    /// The run ends early. What waits is printed, and then its fault line.
+    Early(Stop),
+    /// A line could not be printed, and nothing more is.
+    Unprinted(Trouble),
+}
+
+impl From<OutOfMemory> for Halt {
+    ghost from_gives = { λ _ halt. halt ≡ Early Memory };
+
+    fn from(_: OutOfMemory) -> Self {
+        Halt::Early(Stop::Memory)
+    }
+}
+
+impl From<Trouble> for Halt {
+    ghost from_gives = { λ trouble halt. halt ≡ Unprinted trouble };
+
+    fn from(trouble: Trouble) -> Self {
+        Halt::Unprinted(trouble)
     }
 }

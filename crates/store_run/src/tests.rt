@@ -1,7 +1,10 @@
 use super::*;
-use crate::source::read_all;
-use crate::stop::Stop;
+use crate::feed_source::feed;
+use crate::line_printer::LinePrinter;
+use crate::names::NameLines;
+use crate::stop::{Halt, Stop};
 use outside::{MemSink, MemSource};
+use ss_base::Profile;
 use std::alloc::Global;
 use std::test::Fail;
 
@@ -86,11 +89,68 @@ fn names_of_chunks(rt: HostRuntime) -> Result<(), Fail> {
     Ok(())
 }
 
+// The digests are of pieces parts, made by another program. The second name of the last row ends its segment by the
+// divisor; the segments of 8 chunks have the greatest number.
+#[test]
+fn lines_of_segments(rt: HostRuntime) -> Result<(), Fail> {
+    let alloc = rt.alloc();
+    let mut by_divisor = vec![in alloc; 0; 768]?;
+    for (i, byte) in by_divisor.iter_mut().enumerate() {
+        if 256 <= i && i < 512 {
+            *byte = 1;
+        }
+    }
+    let zeros = vec![in alloc; 0; 5_000]?;
+    let rows: [(&[u8], &str); 5] = [
+        (b"", ""),
+        (
+            b"b",
+            "04b5e98c54ae0aabe84b77e9b0dc7854ea013c390104ab829f4d4465f516ea7c 1 1 1\n",
+        ),
+        (
+            b"a",
+            "258069a1ee97eab6515b2ab3d4d6d0b7204f71c7e9881e978859c4e538977b8d 1 1 0\n",
+        ),
+        (
+            &zeros,
+            "7931b60021fd58ae054bc229d63f91f097debbe1289b985cc495291b142438dd 8 2048 1\n\
+             7931b60021fd58ae054bc229d63f91f097debbe1289b985cc495291b142438dd 8 2048 1\n\
+             d0bdf29f6893f98c441bc2ec965b3cf8c03e9c1dc91b11e6a7880f95c6a4ad06 4 904 1\n",
+        ),
+        (
+            &by_divisor,
+            "179d536eb8678a3ce6c5fff14442d4759ab6fef1026b4f401081b52c502764ae 2 512 2\n\
+             e2d14f521d7eb954a715139063eac10576bfde1a0e8748a7e88110c409979470 1 256 1\n",
+        ),
+    ];
+    for (bytes, lines) in rows.iter() {
+        let (status, printed) = run(alloc, &["segments", "tiny"], bytes, &[], &[])?;
+        assert_eq!(rt; status, 0);
+        assert_eq!(rt; printed.as_slice(), lines.as_bytes());
+    }
+    Ok(())
+}
+
+// Two segments are whole when the second read fails.
+#[test]
+fn fault_in_mid_stream(rt: HostRuntime) -> Result<(), Fail> {
+    let alloc = rt.alloc();
+    let zeros = vec![in alloc; 0; 5_000]?;
+    let (status, printed) = run(alloc, &["segments", "tiny"], &zeros, &[2], &[])?;
+    let lines = "7931b60021fd58ae054bc229d63f91f097debbe1289b985cc495291b142438dd 8 2048 1\n\
+                 7931b60021fd58ae054bc229d63f91f097debbe1289b985cc495291b142438dd 8 2048 1\n\
+                 source fault\n";
+    assert_eq!(rt; status, 12);
+    assert_eq!(rt; printed.as_slice(), lines.as_bytes());
+    Ok(())
+}
+
 #[test]
 fn words_of_no_command(rt: HostRuntime) -> Result<(), Fail> {
     let alloc = rt.alloc();
-    let rows: [&[&str]; 7] = [
+    let rows: [&[&str]; 8] = [
         &[],
+        &["segments"],
         &["names"],
         &["names", "huge"],
         &["names", "tiny", "tiny"],
@@ -145,9 +205,14 @@ fn third_write_fails(rt: HostRuntime) -> Result<(), Fail> {
 #[test]
 fn streams_of_the_limit(rt: HostRuntime) -> Result<(), Fail> {
     let alloc = rt.alloc();
-    for (limit, expected) in [(2, Some(Stop::TooLong)), (3, None)] {
+    for (limit, expected) in [(2, Some(Halt::Early(Stop::TooLong))), (3, None)] {
         let mut source = MemSource::new(b"abc".to_vec(alloc)?, Vec::new(alloc));
-        assert_eq!(rt; read_all(alloc, &mut source, limit).err(), expected);
+        let mut out = MemSink::new(alloc, Vec::new(alloc));
+        let mut printer = LinePrinter::new(alloc, Profile::Tiny, NameLines)
+            .ok()
+            .ok_or("memory")?;
+        let fed = feed(alloc, &mut source, limit, &mut printer, &mut out);
+        assert_eq!(rt; fed.err(), expected);
     }
     Ok(())
 }

@@ -1,0 +1,61 @@
+-- How text on its way to a sink goes on.
+use Rattle.std.proofs.Common.{◌≡◌, ℕ, List, [], ◌++◌, Option, refl, sym, ap, ◌∙◌, subst, append_assoc}
+use Rattle.std.specs.Io.KnownBytes.{Appends}
+use Rattle.outside.specs.Bytes.{AppendsFront}
+use Rattle.outside.proofs.BytesLaws.{Appends-none, Appends-then, AppendsFront-then}
+use Rattle.store_run.specs.Advances.{Advances, Moves}
+
+-- nothing was written yet
+pub advances-none : {A : Type 0} (old : Option (List ℕ)) (before after : A → List ℕ) → ((more : A) → before more ≡ after more) → Advances old old before after
+advances-none old before after same = record { done = []; written = Appends-none old; rest = same }
+
+-- one step behind another
+pub advances-then : {A : Type 0} (old new now : Option (List ℕ)) (before mid after : A → List ℕ) → Advances old new before mid → Advances new now mid after → Advances old now before after
+advances-then old new now before mid after first second = record {
+  done = first.done ++ second.done;
+  written = Appends-then old new now first.done second.done first.written second.written;
+  rest = λ more. first.rest more ∙ ap (λ (l : List ℕ). first.done ++ l) (second.rest more) ∙ sym (append_assoc first.done second.done (after more));
+}
+
+-- the same, of what may come in other words
+pub advances-of : {A B : Type 0} (old new : Option (List ℕ)) (before after : A → List ℕ) (of : B → A) (before' after' : B → List ℕ) → ((more : B) → before' more ≡ before (of more)) → ((more : B) → after' more ≡ after (of more)) → Advances old new before after → Advances old new before' after'
+advances-of old new before after of before' after' at_first at_last way = record {
+  done = way.done;
+  written = way.written;
+  rest = λ more. at_first more ∙ way.rest (of more) ∙ ap (λ (l : List ℕ). way.done ++ l) (sym (at_last more));
+}
+
+-- what was written is a front
+pub advances-front : {A : Type 0} (old new : Option (List ℕ)) (before after : A → List ℕ) (more : A) → Advances old new before after → AppendsFront old new (before more)
+advances-front old new before after more way = (way.done, after more, way.rest more, way.written)
+
+-- a front of what was left follows
+pub advances-cut : {A : Type 0} (old new now : Option (List ℕ)) (before after : A → List ℕ) (more : A) → Advances old new before after → AppendsFront new now (after more) → AppendsFront old now (before more)
+advances-cut old new now before after more way front =
+    AppendsFront-then old new now (before more) way.done (after more) (way.rest more) way.written front
+
+-- all that was left follows
+pub advances-end : {A : Type 0} (old new now : Option (List ℕ)) (before after : A → List ℕ) (more : A) → Advances old new before after → Appends new now (after more) → Appends old now (before more)
+advances-end old new now before after more way last =
+    subst (Appends old now) (sym (way.rest more)) (Appends-then old new now way.done (after more) way.written last)
+
+-- some text waits, and the rest of the lines is to come
+pub moves-advances : {A : Type 0} (old new : Option (List ℕ)) (waiting waiting' text : List ℕ) (before after : A → List ℕ) → ((more : A) → before more ≡ text ++ after more) → Moves old new waiting waiting' text → Advances old new (λ more. waiting ++ before more) (λ more. waiting' ++ after more)
+moves-advances old new waiting waiting' text before after lines move = record {
+  done = move.done;
+  written = move.written;
+  rest = λ more.
+      ap (λ (l : List ℕ). waiting ++ l) (lines more)
+      ∙ sym (append_assoc waiting text (after more))
+      ∙ ap (λ (l : List ℕ). l ++ after more) move.rest
+      ∙ append_assoc move.done waiting' (after more);
+}
+
+-- a front of some text is one of more text
+pub front-more : (old new : Option (List ℕ)) (text more : List ℕ) → AppendsFront old new text → AppendsFront old new (text ++ more)
+front-more old new text more (front, back, split, written) =
+    (front, back ++ more, ap (λ (l : List ℕ). l ++ more) split ∙ append_assoc front back more, written)
+
+-- nothing written is a front of any text
+pub front-none : (old : Option (List ℕ)) (text : List ℕ) → AppendsFront old old text
+front-none old text = ([], text, refl, Appends-none old)
