@@ -1,8 +1,10 @@
 // Why a call on the journal did not answer.
 ghost use Rattle.std.specs.Prelude.{◌≡◌};
+ghost use Rattle.outside.specs.declared.trouble.Trouble.TheVariants.{Memory as memory};
 ghost use Rattle.journal_file.specs.Cause.{create_fault, journal_fault, append_fault};
 
 use outside::Trouble;
+use ss_base::Memory;
 use thiserror::Error;
 
 /// Why no journal was made.
@@ -77,5 +79,13 @@ impl From<Trouble> for AppendFault {
             Trouble::Fault => AppendFault::Shelf,
             Trouble::Memory => AppendFault::Memory,
         }
+    }
+}
+
+impl From<Memory> for AppendFault {
+    ghost from_gives = { λ _ e. e ≡ append_fault memory };
+
+    fn from(_: Memory) -> Self {
+        AppendFault::Memory
     }
 }

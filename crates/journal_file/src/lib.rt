@@ -1,10 +1,12 @@
 //! The journal of a store as an object of a shelf: it is made, read to its end, and added to.
 #![tactic(auto)]
 
+mod appending;
 mod creating;
 mod fault;
 mod header;
 
+pub use appending::append;
 pub use creating::create;
 pub use fault::{AppendFault, CreateFault, JournalFault};
 
