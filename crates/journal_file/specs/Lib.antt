@@ -4,4 +4,7 @@ pub use Rattle.history.specs.Bounds
 pub use Rattle.history.specs.EntryText
 pub mod Adding
 pub mod Header
+pub mod Journal
+pub mod Answer
 pub mod Cause
+pub mod Scan

@@ -5,6 +5,7 @@ ghost use Rattle.journal_file.specs.Cause.{create_fault, journal_fault, append_f
 
 use outside::Trouble;
 use ss_base::Memory;
+use std::alloc::{AllocError, AllocFailed};
 use thiserror::Error;
 
 /// Why no journal was made.
@@ -87,5 +88,29 @@ impl From<Memory> for AppendFault {
 
     fn from(_: Memory) -> Self {
         AppendFault::Memory
+    }
+}
+
+impl From<Memory> for JournalFault {
+    ghost from_gives = { λ _ e. e ≡ journal_fault memory };
+
+    fn from(_: Memory) -> Self {
+        JournalFault::Memory
+    }
+}
+
+impl From<AllocError> for JournalFault {
+    ghost from_gives = { λ _ e. e ≡ journal_fault memory };
+
+    fn from(_: AllocError) -> Self {
+        JournalFault::Memory
+    }
+}
+
+impl<T: Drop> From<AllocFailed<T>> for JournalFault {
+    ghost from_gives = { λ _ e. e ≡ journal_fault memory };
+
+    fn from(_: AllocFailed<T>) -> Self {
+        JournalFault::Memory
     }
 }

@@ -4,6 +4,7 @@
 mod appending;
 mod creating;
 mod fault;
+mod found;
 mod header;
 
 pub use appending::append;

@@ -1,0 +1,48 @@
+-- What reading a journal answers (this project's own).
+use Rattle.std.specs.Prelude.{◌≡◌, ◌≢◌, ℕ, ◌+◌, List, [], ◌∷◌, ◌++◌, length, Option, Result, Ok, Err, Vec}
+use Rattle.std.specs.Option.{option_map}
+use Rattle.std.specs.List.{AllByRecursion, flat_map}
+use Rattle.std.specs.declared.alloc.Global.{Global}
+use Rattle.ss_base.specs.declared.profile.Profile.{Profile}
+use Rattle.history.specs.declared.entry.Entry.{Entry}
+use Rattle.outside.specs.Shelf.{Given, read_of}
+use Rattle.journal_file.specs.declared.fault.JournalFault.{JournalFault}
+use Rattle.journal_file.specs.declared.fault.JournalFault.TheVariants.{Shelf, NotStore, BadEntry, Memory}
+use Rattle.journal_file.specs.Header.{journal_name}
+use Rattle.journal_file.specs.Journal.{IsJournal, HasNoHeader, IsBadAt}
+
+-- what a refusal says of the bytes; of a failure of the shelf and of want of memory they are no cause
+abbrev pub IsRefusedBy : JournalFault → List ℕ → Type 0
+IsRefusedBy Shelf bytes = Unit {0}
+IsRefusedBy NotStore bytes = HasNoHeader bytes
+IsRefusedBy (BadEntry place) bytes = IsBadAt bytes place
+IsRefusedBy Memory bytes = Unit {0}
+
+-- the bytes are a journal with the answered profile and entries, or have the cause of the refusal
+abbrev pub IsAnswer : Result (Profile × Vec Entry Global) JournalFault → List ℕ → Type 0
+IsAnswer (Ok found) bytes = IsJournal bytes found.0 found.1.items
+IsAnswer (Err fault) bytes = IsRefusedBy fault bytes
+
+-- reads of the journal in pieces of at most 65,536 bytes, each from where the one before ended
+abbrev pub reads_from : ℕ → List (List ℕ) → List Given
+reads_from place [] = []
+reads_from place (piece ∷ pieces) = read_of journal_name place 65536 piece ∷ reads_from (place + length piece) pieces
+
+-- the pieces in one
+abbrev pub joined : List (List ℕ) → List ℕ
+joined pieces = flat_map (λ piece. piece) pieces
+
+-- the told reads, and those that gave these pieces
+abbrev pub with_reads : Option (List Given) → List (List ℕ) → Option (List Given)
+with_reads told pieces = option_map (λ gave. gave ++ reads_from 0 pieces) told
+
+-- the reads went on up to the first that gave nothing
+pub record ReadToEnd (pieces : List (List ℕ)) : Type 0 where
+  pub before : List (List ℕ)
+  pub last : pieces ≡ before ++ [] ∷ []
+  pub some : AllByRecursion (λ piece. piece ≢ []) before
+
+-- at an answer that isn't a refusal, the reads went to the end
+abbrev pub EndsReading : Result (Profile × Vec Entry Global) JournalFault → List (List ℕ) → Type 0
+EndsReading (Ok found) pieces = ReadToEnd pieces
+EndsReading (Err fault) pieces = Unit {0}

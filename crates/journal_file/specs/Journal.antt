@@ -1,0 +1,54 @@
+-- What the bytes of a journal are (this project's own).
+use Rattle.std.specs.Prelude.{◌≡◌, ◌≢◌, ℕ, ◌+◌, ◌^◌, ◌≤◌, List, [], ◌∷◌, ◌++◌, length, sum_by}
+use Rattle.std.specs.List.{AllByRecursion}
+use Rattle.ss_base.specs.declared.profile.Profile.{Profile}
+use Rattle.history.specs.declared.entry.Entry.{Entry}
+use Rattle.history.specs.declared.entry.Point.{Point}
+use Rattle.history.specs.declared.entry.Point.TheVariants.{Choose, Commit}
+use Rattle.history.specs.Bounds.{IsEntry, Begins}
+use Rattle.history.specs.EntryText.{entries_text}
+use Rattle.journal_file.specs.Header.{header_text}
+
+-- the header, and the texts of the entries
+abbrev pub journal_text : Profile → List Entry → List ℕ
+journal_text profile entries = header_text profile ++ entries_text entries
+
+-- how many names of hooks and containers an entry lists
+abbrev pub point_weight : Point → ℕ
+point_weight (Choose session hooks champions) = length hooks
+point_weight (Commit manifest content text chunks bytes fresh fresh_bytes uses) = length uses
+point_weight _ = 0
+
+abbrev pub entry_weight : Entry → ℕ
+entry_weight entry = point_weight entry.point
+
+abbrev pub weight : List Entry → ℕ
+weight entries = sum_by entry_weight entries
+
+-- a journal has at most 2^20 entries, and they have at most a weight of 2^24
+pub record FitsJournal (entries : List Entry) : Type 0 where
+  pub count : length entries ≤ 2 ^ 20
+  pub weight : weight entries ≤ 2 ^ 24
+
+-- the bytes are a journal of this profile with these entries
+pub record IsJournal (bytes : List ℕ) (profile : Profile) (entries : List Entry) : Type 0 where
+  pub text : bytes ≡ journal_text profile entries
+  pub valid : AllByRecursion IsEntry entries
+  pub fits : FitsJournal entries
+
+-- no header begins the bytes
+abbrev pub HasNoHeader : List ℕ → Type 0
+HasNoHeader bytes = (profile : Profile) (rest : List ℕ) → bytes ≢ header_text profile ++ rest
+
+-- Entries stand up to this place. More bytes follow, and they don't begin with the text of a further entry that
+-- a journal has room for.
+pub record IsBadAt (bytes : List ℕ) (place : ℕ) : Type 0 where
+  pub profile : Profile
+  pub before : List Entry
+  pub rest : List ℕ
+  pub text : bytes ≡ journal_text profile before ++ rest
+  pub place_is : place ≡ length (journal_text profile before)
+  pub valid : AllByRecursion IsEntry before
+  pub fits : FitsJournal before
+  pub more : rest ≢ []
+  pub bad : (entry : Entry) (n : ℕ) → Begins entry n rest → FitsJournal (before ++ entry ∷ []) → ⊥
