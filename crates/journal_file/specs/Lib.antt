@@ -8,3 +8,4 @@ pub mod Journal
 pub mod Answer
 pub mod Cause
 pub mod Scan
+pub mod Front

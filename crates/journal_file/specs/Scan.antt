@@ -56,10 +56,10 @@ IsBodyFault NotStore bytes = ⊥
 IsBodyFault (BadEntry place) bytes = IsBadBody bytes place
 IsBodyFault Memory bytes = Unit {0}
 
--- no failure of the shelf, and what it says of the bytes holds however they go on
-abbrev pub IsScanFault : JournalFault → List ℕ → Type 0
-IsScanFault Shelf bytes = ⊥
-IsScanFault fault bytes = (later : List ℕ) → IsRefusedBy fault (bytes ++ later)
+-- no failure of the shelf, and what it says of the bytes is so
+abbrev pub IsBytesFault : JournalFault → List ℕ → Type 0
+IsBytesFault Shelf bytes = ⊥
+IsBytesFault fault bytes = IsRefusedBy fault bytes
 
 -- the header, once it was read
 abbrev pub head_text : Option Profile → List ℕ
@@ -69,3 +69,8 @@ head_text (Some profile) = header_text profile
 -- the bytes that were read
 abbrev pub scanned_text : Option Profile → List Entry → List ℕ → List ℕ
 scanned_text profile entries pending = head_text profile ++ (entries_text entries ++ pending)
+
+-- before the header is whole there are no entries, and behind it no whole entry is pending
+abbrev pub IsPending : Option Profile → List Entry → List ℕ → Type 0
+IsPending None entries pending = (entries ≡ []) × (length pending < 8)
+IsPending (Some profile) entries pending = NoneBegins pending × (length pending < longest_entry)

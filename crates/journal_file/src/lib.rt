@@ -6,6 +6,7 @@ mod creating;
 mod fault;
 mod found;
 mod header;
+mod scan;
 
 pub use appending::append;
 pub use creating::create;
