@@ -1,3 +1,4 @@
 pub mod Lengths
 pub mod ScanLaws
 pub mod FrontLaws
+pub mod ReadLaws

@@ -1,5 +1,5 @@
 -- What reading a journal answers (this project's own).
-use Rattle.std.specs.Prelude.{◌≡◌, ◌≢◌, ℕ, ◌+◌, List, [], ◌∷◌, ◌++◌, length, Option, Result, Ok, Err, Vec}
+use Rattle.std.specs.Prelude.{◌≡◌, ◌≢◌, ℕ, ◌+◌, List, [], ◌∷◌, ◌++◌, ◌⊎◌, length, Option, Result, Ok, Err, Vec}
 use Rattle.std.specs.Option.{option_map}
 use Rattle.std.specs.List.{AllByRecursion, flat_map}
 use Rattle.std.specs.declared.alloc.Global.{Global}
@@ -36,13 +36,24 @@ joined pieces = flat_map (λ piece. piece) pieces
 abbrev pub with_reads : Option (List Given) → List (List ℕ) → Option (List Given)
 with_reads told pieces = option_map (λ gave. gave ++ reads_from 0 pieces) told
 
+-- each piece has bytes
+abbrev pub AreParts : List (List ℕ) → Type 0
+AreParts pieces = AllByRecursion (λ piece. piece ≢ []) pieces
+
 -- the reads went on up to the first that gave nothing
 pub record ReadToEnd (pieces : List (List ℕ)) : Type 0 where
-  pub before : List (List ℕ)
-  pub last : pieces ≡ before ++ [] ∷ []
-  pub some : AllByRecursion (λ piece. piece ≢ []) before
+  pub parts : List (List ℕ)
+  pub last : pieces ≡ parts ++ [] ∷ []
+  pub are_parts : AreParts parts
 
--- at an answer that isn't a refusal, the reads went to the end
-abbrev pub EndsReading : Result (Profile × Vec Entry Global) JournalFault → List (List ℕ) → Type 0
-EndsReading (Ok found) pieces = ReadToEnd pieces
-EndsReading (Err fault) pieces = Unit {0}
+-- an answer is read to the end, and a refusal perhaps not
+abbrev pub EndsWith : Result (Profile × Vec Entry Global) JournalFault → List (List ℕ) → Type 0
+EndsWith (Ok found) pieces = ReadToEnd pieces
+EndsWith (Err fault) pieces = AreParts pieces ⊎ ReadToEnd pieces
+
+-- Reads of the journal were made, one behind the other, and what they gave has the answer.
+pub record HasRead (old new : Option (List Given)) (result : Result (Profile × Vec Entry Global) JournalFault) : Type 0 where
+  pub pieces : List (List ℕ)
+  pub gave : new ≡ with_reads old pieces
+  pub end : EndsWith result pieces
+  pub answer : IsAnswer result (joined pieces)

@@ -6,11 +6,13 @@ mod creating;
 mod fault;
 mod found;
 mod header;
+mod reading;
 mod scan;
 
 pub use appending::append;
 pub use creating::create;
 pub use fault::{AppendFault, CreateFault, JournalFault};
+pub use reading::read;
 
 #[cfg(test)]
 mod tests;

@@ -1,0 +1,241 @@
+-- Reads of a journal, one behind the other.
+use Rattle.std.proofs.Common.{◌≡◌, ◌≢◌, ℕ, ◌+◌, ◌*◌, ◌^◌, ◌<◌, ◌≤◌, Bool, true, false, List, [], ◌∷◌, ◌++◌, length, take, drop, refl, sym, ap, subst, ◌∙◌, append_assoc, arith, Option, Some, None, Result, Ok, Err, Vec, inl, inr}
+use Rattle.std.specs.Prelude.{IfSome, IfOk, IfErr, is_some, unwrap_or}
+use Rattle.std.specs.Option.{option_map}
+use Rattle.std.specs.List.{AllByRecursion}
+use Rattle.std.specs.declared.alloc.Global.{Global}
+use Rattle.std.specs.FinMap as map
+use Rattle.std.proofs.lemmas.List.{length-append, append-nil}
+use Rattle.std.proofs.lemmas.Grind.{flat_map-append}
+use Rattle.ss_base.specs.declared.profile.Profile.{Profile}
+use Rattle.history.specs.declared.entry.Entry.{Entry}
+use Rattle.history.specs.EntryText.{entries_text}
+use Rattle.outside.specs.Shelf.{Objects, Given, bytes_of, part_of, read_of, one_more}
+use Rattle.outside.proofs.ShelfLaws.{part_of-rest, part_of-end}
+use Rattle.journal_file.specs.declared.fault.JournalFault.{JournalFault}
+use Rattle.journal_file.specs.declared.fault.JournalFault.TheVariants.{Shelf, NotStore, BadEntry, Memory}
+use Rattle.journal_file.specs.declared.scan.Scan.{Scan}
+use Rattle.outside.specs.declared.trouble.Trouble.{Trouble}
+use Rattle.outside.specs.declared.trouble.Trouble.TheVariants as trouble
+use Rattle.journal_file.specs.Cause.{journal_fault}
+use Rattle.journal_file.specs.Header.{journal_name, header_text}
+use Rattle.journal_file.specs.Journal.{IsJournal, HasNoHeader}
+use Rattle.journal_file.specs.Answer.{IsRefusedBy, IsAnswer, reads_from, joined, with_reads, AreParts, ReadToEnd, EndsWith, HasRead}
+use Rattle.journal_file.specs.Scan.{IsBytesFault, IsPending, scanned_text, head_text}
+use Rattle.journal_file.specs.Front.{IsFront, scan_text}
+use Rattle.journal_file.proofs.Lengths.{length-entries}
+use Rattle.journal_file.proofs.FrontLaws.{length-header}
+
+-- a front of a journal is short
+pub length-front : (scan : Scan) → IsFront scan → length (scan_text scan) < 2 ^ 40
+length-front scan front =
+    let entries = scan.found.entries.items in
+    let texts = length-entries entries front.found.valid in
+    let count = front.found.fits.count in
+    omega (arith, length-append (head_text scan.profile) (entries_text entries ++ scan.pending.items), length-append (entries_text entries) scan.pending.items,
+        length-head scan.profile, length-pending scan.profile entries scan.pending.items front.rest)
+  where
+    length-head : (profile : Option Profile) → length (head_text profile) ≤ 8
+    length-head None = omega arith
+    length-head (Some p) = omega (arith, length-header p)
+    length-pending : (profile : Option Profile) (entries : List Entry) (pending : List ℕ) → IsPending profile entries pending → length pending < 133124
+    length-pending None entries pending rest = omega (arith, rest.1)
+    length-pending (Some p) entries pending rest = rest.1
+
+-- what was read so far: its pieces, and what an exclusive shelf still has
+pub record IsSoFar (held : Option Objects) (old new : Option (List Given)) (text : List ℕ) (place : ℕ) : Type 0 where
+  pub pieces : List (List ℕ)
+  pub gave : new ≡ with_reads old pieces
+  pub parts : AreParts pieces
+  pub joined_is : joined pieces ≡ text
+  pub place_is : place ≡ length text
+  pub told : IfSome held (λ objects. bytes_of objects journal_name ≡ text ++ drop place (bytes_of objects journal_name))
+
+with_reads-none : (told : Option (List Given)) → told ≡ with_reads told []
+with_reads-none None = refl
+with_reads-none (Some gave) = ap Some (sym (append-nil gave))
+
+reads_from-append : (place : ℕ) (pieces : List (List ℕ)) (piece : List ℕ) → reads_from place (pieces ++ piece ∷ []) ≡ reads_from place pieces ++ read_of journal_name (place + length (joined pieces)) 65536 piece ∷ []
+reads_from-append place [] piece = ap (λ n. read_of journal_name n 65536 piece ∷ []) (omega arith)
+reads_from-append place (p ∷ pieces) piece =
+    ap (λ (l : List Given). read_of journal_name place 65536 p ∷ l)
+    (reads_from-append (place + length p) pieces piece
+    ∙ ap (λ n. reads_from (place + length p) pieces ++ read_of journal_name n 65536 piece ∷ []) (omega (arith, length-append p (joined pieces))))
+
+with_reads-more : (told : Option (List Given)) (pieces : List (List ℕ)) (piece : List ℕ) (place : ℕ) → place ≡ length (joined pieces)
+    → one_more (with_reads told pieces) (read_of journal_name place 65536 piece) ≡ with_reads told (pieces ++ piece ∷ [])
+with_reads-more None pieces piece place is = refl
+with_reads-more (Some gave) pieces piece place is =
+    ap Some (append_assoc gave (reads_from 0 pieces) (read_of journal_name place 65536 piece ∷ [])
+    ∙ ap (λ (l : List Given). gave ++ l) (ap (λ n. reads_from 0 pieces ++ read_of journal_name n 65536 piece ∷ []) (omega (arith, is)) ∙ sym (reads_from-append 0 pieces piece)))
+
+AllByRecursion-snoc : {A : Type 0} (P : A → Type 0) (xs : List A) (x : A) → AllByRecursion P xs → P x → AllByRecursion P (xs ++ x ∷ [])
+AllByRecursion-snoc P [] x all here = (here, tt)
+AllByRecursion-snoc P (y ∷ ys) x all here = (all.0, AllByRecursion-snoc P ys x all.1 here)
+
+joined-more : (pieces : List (List ℕ)) (piece : List ℕ) → joined (pieces ++ piece ∷ []) ≡ joined pieces ++ piece
+joined-more pieces piece = flat_map-append (λ (p : List ℕ). p) pieces (piece ∷ []) ∙ ap (λ (l : List ℕ). joined pieces ++ l) (append-nil piece)
+
+-- before the first read
+pub none_so_far : (held : Option Objects) (gave : Option (List Given)) → IsSoFar held gave gave [] 0
+none_so_far held gave = record {
+  pieces = [];
+  gave = with_reads-none gave;
+  parts = tt;
+  joined_is = refl;
+  place_is = refl;
+  told = told held;
+}
+  where
+    told : (held : Option Objects) → IfSome held (λ objects. bytes_of objects journal_name ≡ [] ++ drop 0 (bytes_of objects journal_name))
+    told None = tt
+    told (Some objects) = refl
+
+-- what an exclusive shelf has behind one more piece
+told_more : (held : Option Objects) (text piece : List ℕ) (place : ℕ)
+    → IfSome held (λ objects. bytes_of objects journal_name ≡ text ++ drop place (bytes_of objects journal_name))
+    → IfSome held (λ objects. piece ≡ part_of (bytes_of objects journal_name) place 65536)
+    → IfSome held (λ objects. bytes_of objects journal_name ≡ (text ++ piece) ++ drop (place + length piece) (bytes_of objects journal_name))
+told_more None text piece place told given = tt
+told_more (Some objects) text piece place told given =
+    told ∙ ap (λ (l : List ℕ). text ++ l) (part_of-rest (bytes_of objects journal_name) piece place 65536 given)
+    ∙ sym (append_assoc text piece (drop (place + length piece) (bytes_of objects journal_name)))
+
+module _ (held : Option Objects) (old gave new : Option (List Given)) (text piece : List ℕ) (place : ℕ) (before : IsSoFar held old gave text place)
+    (read : new ≡ one_more gave (read_of journal_name place 65536 piece))
+    (given : IfSome held (λ objects. piece ≡ part_of (bytes_of objects journal_name) place 65536)) where
+
+  gave_more : new ≡ with_reads old (before.pieces ++ piece ∷ [])
+  gave_more =
+      read ∙ ap (λ (o : Option (List Given)). one_more o (read_of journal_name place 65536 piece)) before.gave
+      ∙ with_reads-more old before.pieces piece place (before.place_is ∙ sym (ap length before.joined_is))
+
+  joined_now : joined (before.pieces ++ piece ∷ []) ≡ text ++ piece
+  joined_now = joined-more before.pieces piece ∙ ap (λ (l : List ℕ). l ++ piece) before.joined_is
+
+  -- after a read that gave bytes
+  pub more_so_far : (after : List ℕ) (next : ℕ) → piece ≢ [] → after ≡ text ++ piece → next ≡ place + length piece → IsSoFar held old new after next
+  more_so_far after next some after_is next_is = record {
+    pieces = before.pieces ++ piece ∷ [];
+    gave = gave_more;
+    parts = AllByRecursion-snoc (λ (p : List ℕ). p ≢ []) before.pieces piece before.parts some;
+    joined_is = joined_now ∙ sym after_is;
+    place_is = next_is ∙ omega (arith, before.place_is, length-append text piece, ap length after_is);
+    told =
+        subst (λ (t : List ℕ). IfSome held (λ objects. bytes_of objects journal_name ≡ t ++ drop next (bytes_of objects journal_name))) (sym after_is)
+        (subst (λ (n : ℕ). IfSome held (λ objects. bytes_of objects journal_name ≡ (text ++ piece) ++ drop n (bytes_of objects journal_name))) (sym next_is)
+        (told_more held text piece place before.told given));
+  }
+
+refused_by : (fault : JournalFault) (bytes : List ℕ) → IsBytesFault fault bytes → IsRefusedBy fault bytes
+refused_by Shelf bytes bad = tt
+refused_by NotStore bytes bad = bad
+refused_by (BadEntry place) bytes bad = bad
+refused_by Memory bytes bad = tt
+
+-- an answer that wasn't read to the end, or a refusal that was
+abbrev IsEnd : Result (Profile × Vec Entry Global) JournalFault → List ℕ → Type 0
+IsEnd result text = IfOk result (λ found. IsJournal text found.0 found.1.items) × IfErr result (λ fault. IsBytesFault fault text)
+
+answer_of : (result : Result (Profile × Vec Entry Global) JournalFault) (text : List ℕ) → IsEnd result text → IsAnswer result text
+answer_of (Ok found) text end = end.0
+answer_of (Err fault) text end = refused_by fault text end.1
+
+ends_with : (result : Result (Profile × Vec Entry Global) JournalFault) (pieces : List (List ℕ)) → ReadToEnd pieces → EndsWith result pieces
+ends_with (Ok found) pieces end = end
+ends_with (Err fault) pieces end = inr end
+
+module _ (held : Option Objects) (old gave new : Option (List Given)) (text piece : List ℕ) (place : ℕ) (before : IsSoFar held old gave text place)
+    (read : new ≡ one_more gave (read_of journal_name place 65536 piece))
+    (given : IfSome held (λ objects. piece ≡ part_of (bytes_of objects journal_name) place 65536)) where
+
+  -- after the read that gave nothing
+  module _ (none : piece ≡ []) (result : Result (Profile × Vec Entry Global) JournalFault) (end : IsEnd result text) where
+    pub end_told : IfSome held (λ objects. IsAnswer result (bytes_of objects journal_name))
+    end_told = told held before.told given
+      where
+        told : (held : Option Objects) → IfSome held (λ objects. bytes_of objects journal_name ≡ text ++ drop place (bytes_of objects journal_name))
+            → IfSome held (λ objects. piece ≡ part_of (bytes_of objects journal_name) place 65536) → IfSome held (λ objects. IsAnswer result (bytes_of objects journal_name))
+        told None so_far given = tt
+        told (Some objects) so_far given =
+            let bytes = bytes_of objects journal_name in
+            let rest : drop place bytes ≡ [] = part_of-end bytes place 65536 (omega arith) (sym given ∙ none) in
+            subst (λ (t : List ℕ). IsAnswer result t) (sym (so_far ∙ ap (λ (l : List ℕ). text ++ l) rest ∙ append-nil text)) (answer_of result text end)
+
+    pub end_gave : HasRead old new result
+    end_gave =
+        let pieces = before.pieces ++ [] ∷ [] in
+        record {
+          pieces = pieces;
+          gave = gave_more held old gave new text piece place before read given ∙ ap (λ (p : List ℕ). with_reads old (before.pieces ++ p ∷ [])) none;
+          end = ends_with result pieces (record { parts = before.pieces; last = refl; are_parts = before.parts });
+          answer = subst (λ (t : List ℕ). IsAnswer result t) (sym (joined-more before.pieces [] ∙ append-nil (joined before.pieces) ∙ before.joined_is)) (answer_of result text end);
+        }
+
+  -- after a refusal of what a read gave
+  module _ (some : piece ≢ []) (fault : JournalFault) (bad : (later : List ℕ) → IsBytesFault fault ((text ++ piece) ++ later)) where
+    pub bad_told : IfSome held (λ objects. IsRefusedBy fault (bytes_of objects journal_name))
+    bad_told = told held (told_more held text piece place before.told given)
+      where
+        told : (held : Option Objects) → IfSome held (λ objects. bytes_of objects journal_name ≡ (text ++ piece) ++ drop (place + length piece) (bytes_of objects journal_name))
+            → IfSome held (λ objects. IsRefusedBy fault (bytes_of objects journal_name))
+        told None is = tt
+        told (Some objects) is =
+            refused_by fault (bytes_of objects journal_name)
+            (subst (λ (t : List ℕ). IsBytesFault fault t) (sym is) (bad (drop (place + length piece) (bytes_of objects journal_name))))
+
+    pub bad_gave : HasRead old new (Err fault)
+    bad_gave =
+        let pieces = before.pieces ++ piece ∷ [] in
+        record {
+          pieces = pieces;
+          gave = gave_more held old gave new text piece place before read given;
+          end = inl (AllByRecursion-snoc (λ (p : List ℕ). p ≢ []) before.pieces piece before.parts some);
+          answer =
+              subst (λ (t : List ℕ). IsRefusedBy fault t) (append-nil (text ++ piece) ∙ sym (joined_now held old gave new text piece place before read given))
+              (refused_by fault ((text ++ piece) ++ []) (bad []));
+        }
+
+-- a failing shelf is a cause whatever the bytes are
+no_cause : (trouble : Trouble) (bytes : List ℕ) → IsRefusedBy (journal_fault trouble) bytes
+no_cause trouble.Fault bytes = tt
+no_cause trouble.Memory bytes = tt
+
+pub failed_told : (held : Option Objects) (trouble : Trouble) → IfSome held (λ objects. IsRefusedBy (journal_fault trouble) (bytes_of objects journal_name))
+failed_told None trouble = tt
+failed_told (Some objects) trouble = no_cause trouble (bytes_of objects journal_name)
+
+pub failed_gave : (held : Option Objects) (old new after : Option (List Given)) (text : List ℕ) (place : ℕ) (trouble : Trouble) → IsSoFar held old new text place → after ≡ new → HasRead old after (Err (journal_fault trouble))
+failed_gave held old new after text place trouble so_far same = record {
+  pieces = so_far.pieces;
+  gave = same ∙ so_far.gave;
+  end = inl so_far.parts;
+  answer = no_cause trouble (joined so_far.pieces);
+}
+
+no_header : (bytes : List ℕ) → bytes ≡ [] → HasNoHeader bytes
+no_header bytes none profile rest is = cc
+
+-- there is no journal
+pub absent_told : (held : Option Objects) → IfSome held (λ objects. false ≡ map.contains_key objects journal_name) → IfSome held (λ objects. HasNoHeader (bytes_of objects journal_name))
+absent_told None absent = tt
+absent_told (Some objects) absent = no_header (bytes_of objects journal_name) (by_answer (map.get objects journal_name) (sym absent))
+  where
+    by_answer : (o : Option (List ℕ)) → is_some o ≡ false → unwrap_or o [] ≡ []
+    by_answer None none = refl
+    by_answer (Some bytes) none = (cc)
+
+pub absent_gave : (old new : Option (List Given)) → new ≡ old → HasRead old new (Err NotStore)
+absent_gave old new same = record {
+  pieces = [];
+  gave = same ∙ with_reads-none old;
+  end = inl tt;
+  answer = no_header [] refl;
+}
+
+-- what bytes are refused for is no failure of the shelf
+pub not_shelf : (fault : JournalFault) (bytes : List ℕ) → IsBytesFault fault bytes → fault ≢ Shelf
+not_shelf Shelf bytes bad is = bad
+not_shelf NotStore bytes bad is = cc
+not_shelf (BadEntry place) bytes bad is = cc
+not_shelf Memory bytes bad is = cc
