@@ -1,22 +1,35 @@
-//! The program `sparsestore`: `store_run` over the words, the standard input and the standard output of a process.
+//! The program `sparsestore`: `store_run` over the words, the standard input and output and the files of a process.
 #![tactic(auto)]
 
-use outside::{ReadSource, WriteSink};
+use outside::{DirShelf, ReadSource, WriteSink};
 use ss_base::Memory;
 use std::process::ExitCode;
 use std::rt::Env;
-use std::{env, io};
-use store_run::run_solo;
+use std::{env, fs, io};
+use store_run::{Lane, run_solo};
+
+const FILES: &str = ".";
+
+const DEPOT: &str = "ssdepot";
 
 const OUT_OF_MEMORY: u8 = 8;
 
 fn main(rt: HostRuntime) -> ExitCode {
-    let Ok(words) = words(&rt) else {
-        return ExitCode::from(OUT_OF_MEMORY);
+    let status = run(&rt).unwrap_or(OUT_OF_MEMORY);
+    ExitCode::from(status)
+}
+
+// Where the depot's folder can't be made, the first call on the depot fails.
+fn run(rt: &HostRuntime) -> Result<u8, Memory> {
+    let words = words(rt)?;
+    let _ = fs::create_dir(rt, DEPOT);
+    let mut lane = Lane {
+        files: DirShelf::new(rt, String::from_str(rt.alloc(), FILES)?),
+        depot: DirShelf::new(rt, String::from_str(rt.alloc(), DEPOT)?),
     };
     let mut script = ReadSource::new(rt.stdin());
     let mut out = WriteSink::new(rt.stdout());
-    ExitCode::from(run_solo(rt.alloc(), &words, &mut script, &mut out))
+    Ok(run_solo(rt.alloc(), &words, &mut script, &mut out, &mut lane))
 }
 
 // The words after the program's name. Where one is no text, they are no command's, as no words are.

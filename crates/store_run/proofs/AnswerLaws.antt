@@ -7,11 +7,11 @@ use Rattle.outside.specs.Bytes.{AppendsFront}
 use Rattle.outside.proofs.BytesLaws.{Appends-then, AppendsFront-then}
 use Rattle.store_run.specs.declared.stop.Stop.{Stop}
 use Rattle.store_run.specs.declared.stop.Stop.TheVariants.{Usage, TooLong, Memory, SourceFault}
-use Rattle.store_run.specs.Stop.{fault_line, status_of, EndsWith}
+use Rattle.store_run.specs.Stop.{fault_line, status_of, EndsWith, IsStreamStop}
 use Rattle.store_run.specs.Feed.{max_stream, Exceeds, IsPrinted, IsHalted, IsCutShort}
 use Rattle.store_run.specs.Run.{AreLines, StreamAnswer}
 use Rattle.store_run.proofs.AdvancesLaws.{front-more}
-use Rattle.store_run.proofs.StatusLaws.{early, tells, same_cause, status_of-not_0, status_of-not_9, status_of-8}
+use Rattle.store_run.proofs.StatusLaws.{same_cause, not_done, stream_status, status_of-same, status_of-not_0, status_of-not_9, too_long-memory, source_fault-memory}
 
 -- the text of some bytes is all lines
 whole_text : (text : List ℕ → List ℕ) (left left' : Option (List ℕ)) (bytes : List ℕ) → Consumes left left' bytes → AreLines text left left' (text bytes)
@@ -22,7 +22,6 @@ pub answer-done : (text : List ℕ → List ℕ) (left left' : Option (List ℕ)
     → IsPrinted max_stream left left' ended' written written' text → StreamAnswer text left left' ended' written written' SourceRose SinkRose 0
 answer-done text left left' ended' written written' SourceRose SinkRose done = record {
   answers = inl refl;
-  no_usage = λ e. omega arith;
   done = λ e. done;
   too_long = λ e. absurd (omega arith);
   sink_fault = λ e. absurd (omega arith);
@@ -35,8 +34,7 @@ answer-done text left left' ended' written written' SourceRose SinkRose done = r
 pub answer-sink : (text : List ℕ → List ℕ) (left left' : Option (List ℕ)) (ended' : Type 0) (written written' : Option (List ℕ)) (SourceRose SinkRose : Type 0)
     → IsCutShort left left' written written' text → SinkRose → StreamAnswer text left left' ended' written written' SourceRose SinkRose 9
 answer-sink text left left' ended' written written' SourceRose SinkRose cut rose = record {
-  answers = inr (inr (inr (inr (inl refl))));
-  no_usage = λ e. omega arith;
+  answers = inr (inr (inr (inl refl)));
   done = λ e. absurd (omega arith);
   too_long = λ e. absurd (omega arith);
   sink_fault = λ e. rose;
@@ -49,20 +47,19 @@ answer-sink text left left' ended' written written' SourceRose SinkRose cut rose
 pub answer-memory : (text : List ℕ → List ℕ) (left left' : Option (List ℕ)) (ended' : Type 0) (written written' : Option (List ℕ)) (SourceRose SinkRose : Type 0)
     → IsCutShort left left' written written' text → StreamAnswer text left left' ended' written written' SourceRose SinkRose 8
 answer-memory text left left' ended' written written' SourceRose SinkRose cut = record {
-  answers = inr (inr (inr (inl refl)));
-  no_usage = λ e. omega arith;
+  answers = inr (inr (inl refl));
   done = λ e. absurd (omega arith);
   too_long = λ e. absurd (omega arith);
   sink_fault = λ e. absurd (omega arith);
   source_fault = λ e. absurd (omega arith);
-  refused = λ why other is. absurd (status_of-8 why other (sym is));
+  refused = λ why other is. absurd (other (status_of-same why Memory (sym is)));
   printed = (Usage, text cut.bytes, whole_text text left left' cut.bytes cut.taken, front-more written written' (text cut.bytes) (fault_line Usage) cut.front);
 }
 
 -- what a run that ends early says of itself
 pub record EndsEarly (left : Option (List ℕ)) (mid written' : Option (List ℕ)) (SourceRose SinkRose : Type 0) (why : Stop) (waiting : List ℕ) (status : ℕ) : Type 0 where
   pub ends : EndsWith why status
-  pub no_usage : why ≢ Usage
+  pub stop : IsStreamStop why
   pub too_long : why ≡ TooLong → Exceeds max_stream left
   pub source_fault : why ≡ SourceFault → SourceRose
   pub sink_fault : status ≡ 9 → SinkRose
@@ -73,7 +70,6 @@ pub record EndsEarly (left : Option (List ℕ)) (mid written' : Option (List ℕ
 pub answer-early : (text : List ℕ → List ℕ) (left left' : Option (List ℕ)) (ended' : Type 0) (written mid written' : Option (List ℕ)) (SourceRose SinkRose : Type 0) (why : Stop) (waiting : List ℕ) (status : ℕ)
     → IsHalted left left' written mid text waiting → EndsEarly left mid written' SourceRose SinkRose why waiting status → StreamAnswer text left left' ended' written written' SourceRose SinkRose status
 answer-early text left left' ended' written mid written' SourceRose SinkRose why waiting status halted end =
-    let t = tells why status end.ends in
     let lines = halted.done ++ waiting in
     let are : AreLines text left left' lines = record {
       bytes = halted.bytes;
@@ -83,14 +79,13 @@ answer-early text left left' ended' written mid written' SourceRose SinkRose why
     } in
     let joined = sym (append_assoc halted.done waiting (fault_line why)) in
     record {
-      answers = early why status end.ends;
-      no_usage = λ e. end.no_usage (t.usage e);
-      done = λ e. absurd (t.early_end e);
-      too_long = λ e. end.too_long (t.too_long e);
+      answers = stream_status why status end.stop end.ends;
+      done = λ e. absurd (not_done why status end.ends e);
+      too_long = λ e. end.too_long (same_cause why TooLong status end.ends too_long-memory e);
       sink_fault = end.sink_fault;
-      source_fault = λ e. end.source_fault (t.source_fault e);
+      source_fault = λ e. end.source_fault (same_cause why SourceFault status end.ends source_fault-memory e);
       refused = λ cause other is.
-          let same = same_cause why cause status t other is in
+          let same = same_cause why cause status end.ends other is in
           ⊎_elim
           (λ whole. inl (
             lines,

@@ -28,12 +28,6 @@ on_early_weaker (Ok x) f p = tt
 on_early_weaker (Err (Early why)) f p = f why p
 on_early_weaker (Err (Unprinted trouble)) f p = tt
 
--- what holds holds where the run ends early
-pub on_early : {T P : Type 0} (r : Result T Halt) → P → OnEarly r (λ _. P)
-on_early (Ok x) p = tt
-on_early (Err (Early why)) p = p
-on_early (Err (Unprinted trouble)) p = tt
-
 -- a fact gives another where a line could not be printed
 pub on_unprinted_weaker : {T P Q : Type 0} (r : Result T Halt) → (P → Q) → OnUnprinted r P → OnUnprinted r Q
 on_unprinted_weaker (Ok x) f p = tt

@@ -1,71 +1,83 @@
 -- Which statuses runs that end early answer, and what each tells of the cause.
-use Rattle.std.proofs.Common.{◌≡◌, ◌≢◌, ℕ, inl, inr, refl, arith}
+use Rattle.std.proofs.Common.{◌≡◌, ◌≢◌, ℕ, cond, nat_eq, inl, inr, refl, sym, ap, ◌∙◌, arith}
 use Rattle.store_run.specs.declared.stop.Stop.{Stop}
-use Rattle.store_run.specs.declared.stop.Stop.TheVariants.{Usage, TooLong, Memory, SourceFault}
-use Rattle.store_run.specs.Stop.{status_of, EndsWith}
-use Rattle.store_run.specs.Run.{IsStatus}
+use Rattle.store_run.specs.declared.stop.Stop.TheVariants.{Usage, TooLong, Memory, AlreadyStore, SourceFault, DepotFault}
+use Rattle.outside.specs.declared.trouble.Trouble.{Trouble}
+use Rattle.outside.specs.declared.trouble.Trouble.TheVariants as trouble
+use Rattle.store_run.specs.Stop.{stop_of, status_of, EndsWith, IsStreamStop}
+use Rattle.store_run.specs.Run.{IsStreamStatus}
 
--- a run that ends early has one of the statuses
-pub early : (why : Stop) (status : ℕ) → EndsWith why status → IsStatus status
-early Usage status (inl is) = inr (inl is)
-early Usage status (inr is) = inr (inr (inr (inl is)))
-early TooLong status (inl is) = inr (inr (inl is))
-early TooLong status (inr is) = inr (inr (inr (inl is)))
-early Memory status (inl is) = inr (inr (inr (inr (inl is))))
-early Memory status (inr is) = inr (inr (inr (inl is)))
-early SourceFault status (inl is) = inr (inr (inr (inr (inr is))))
-early SourceFault status (inr is) = inr (inr (inr (inl is)))
+-- the cause that a status stands for
+cause_of : ℕ → Stop
+cause_of n = cond (nat_eq n 1) Usage (cond (nat_eq n 4) DepotFault (cond (nat_eq n 7) TooLong (cond (nat_eq n 8) Memory (cond (nat_eq n 11) AlreadyStore SourceFault))))
 
--- what a status tells of the cause
-pub record Tells (why : Stop) (status : ℕ) : Type 0 where
-  pub early_end : status ≢ 0
-  pub usage : status ≡ 1 → why ≡ Usage
-  pub too_long : status ≡ 7 → why ≡ TooLong
-  pub source_fault : status ≡ 12 → why ≡ SourceFault
+cause_of-status_of : (why : Stop) → cause_of (status_of why) ≡ why
+unfolding cause_of
+cause_of-status_of Usage = refl
+cause_of-status_of TooLong = refl
+cause_of-status_of Memory = refl
+cause_of-status_of AlreadyStore = refl
+cause_of-status_of SourceFault = refl
+cause_of-status_of DepotFault = refl
 
-pub tells : (why : Stop) (status : ℕ) → EndsWith why status → Tells why status
-tells Usage status (inl is) = record { early_end = λ e. omega arith; usage = λ e. refl; too_long = λ e. absurd (omega arith); source_fault = λ e. absurd (omega arith) }
-tells Usage status (inr is) = record { early_end = λ e. omega arith; usage = λ e. refl; too_long = λ e. absurd (omega arith); source_fault = λ e. absurd (omega arith) }
-tells TooLong status (inl is) = record { early_end = λ e. omega arith; usage = λ e. absurd (omega arith); too_long = λ e. refl; source_fault = λ e. absurd (omega arith) }
-tells TooLong status (inr is) = record { early_end = λ e. omega arith; usage = λ e. absurd (omega arith); too_long = λ e. refl; source_fault = λ e. absurd (omega arith) }
-tells Memory status (inl is) = record { early_end = λ e. omega arith; usage = λ e. absurd (omega arith); too_long = λ e. absurd (omega arith); source_fault = λ e. absurd (omega arith) }
-tells Memory status (inr is) = record { early_end = λ e. omega arith; usage = λ e. absurd (omega arith); too_long = λ e. absurd (omega arith); source_fault = λ e. absurd (omega arith) }
-tells SourceFault status (inl is) = record { early_end = λ e. omega arith; usage = λ e. absurd (omega arith); too_long = λ e. absurd (omega arith); source_fault = λ e. refl }
-tells SourceFault status (inr is) = record { early_end = λ e. omega arith; usage = λ e. absurd (omega arith); too_long = λ e. absurd (omega arith); source_fault = λ e. refl }
-
--- a status that stands for a cause other than memory is answered for that cause alone
-pub same_cause : (why cause : Stop) (status : ℕ) → Tells why status → cause ≢ Memory → status ≡ status_of cause → why ≡ cause
-same_cause why Usage status t other is = t.usage is
-same_cause why TooLong status t other is = t.too_long is
-same_cause why Memory status t other is = absurd (other refl)
-same_cause why SourceFault status t other is = t.source_fault is
+-- no two causes have one status
+pub status_of-same : (why cause : Stop) → status_of why ≡ status_of cause → why ≡ cause
+status_of-same why cause e = sym (cause_of-status_of why) ∙ ap cause_of e ∙ cause_of-status_of cause
 
 -- no cause has the status of a run that was done, or of a sink that failed
 pub status_of-not_0 : (why : Stop) → status_of why ≢ 0
 status_of-not_0 Usage e = omega arith
 status_of-not_0 TooLong e = omega arith
 status_of-not_0 Memory e = omega arith
+status_of-not_0 AlreadyStore e = omega arith
 status_of-not_0 SourceFault e = omega arith
+status_of-not_0 DepotFault e = omega arith
 
 pub status_of-not_9 : (why : Stop) → status_of why ≢ 9
 status_of-not_9 Usage e = omega arith
 status_of-not_9 TooLong e = omega arith
 status_of-not_9 Memory e = omega arith
+status_of-not_9 AlreadyStore e = omega arith
 status_of-not_9 SourceFault e = omega arith
+status_of-not_9 DepotFault e = omega arith
 
--- no other cause has the status of memory
-pub status_of-8 : (why : Stop) → why ≢ Memory → status_of why ≢ 8
-status_of-8 Usage other e = omega arith
-status_of-8 TooLong other e = omega arith
-status_of-8 Memory other e = other refl
-status_of-8 SourceFault other e = omega arith
+-- a status that stands for a cause other than memory is answered for that cause alone
+pub same_cause : (why cause : Stop) (status : ℕ) → EndsWith why status → cause ≢ Memory → status ≡ status_of cause → why ≡ cause
+same_cause why cause status (inl is) other stands = status_of-same why cause (sym is ∙ stands)
+same_cause why cause status (inr (inl memory)) other stands = absurd (other (status_of-same cause Memory (sym stands ∙ memory)))
+same_cause why cause status (inr (inr sink)) other stands = absurd (status_of-not_9 cause (sym stands ∙ sink.1))
 
--- memory is no other cause
-pub memory-usage : Memory ≢ Usage
-memory-usage e = cc
+-- a run that ends early is not done
+pub not_done : (why : Stop) (status : ℕ) → EndsWith why status → status ≢ 0
+not_done why status (inl is) zero = status_of-not_0 why (sym is ∙ zero)
+not_done why status (inr (inl memory)) zero = omega arith
+not_done why status (inr (inr sink)) zero = omega (arith, sink.1)
 
-pub memory-too_long : Memory ≢ TooLong
-memory-too_long e = cc
+-- where the printing of a stream ends early
+pub stream_status : (why : Stop) (status : ℕ) → IsStreamStop why → EndsWith why status → IsStreamStatus status
+stream_status Usage status stop ends = absurd stop
+stream_status TooLong status stop (inl is) = inr (inl is)
+stream_status Memory status stop (inl is) = inr (inr (inl is))
+stream_status AlreadyStore status stop ends = absurd stop
+stream_status SourceFault status stop (inl is) = inr (inr (inr (inr is)))
+stream_status DepotFault status stop ends = absurd stop
+stream_status why status stop (inr (inl memory)) = inr (inr (inl memory))
+stream_status why status stop (inr (inr sink)) = inr (inr (inr (inl sink.1)))
 
-pub memory-source_fault : Memory ≢ SourceFault
-memory-source_fault e = cc
+-- the causes differ
+pub too_long-memory : TooLong ≢ Memory
+too_long-memory e = cc
+
+pub source_fault-memory : SourceFault ≢ Memory
+source_fault-memory e = cc
+
+pub already-memory : AlreadyStore ≢ Memory
+already-memory e = cc
+
+pub depot_fault-memory : DepotFault ≢ Memory
+depot_fault-memory e = cc
+
+-- a source's trouble ends the printing of a stream early
+pub stop_of-stream : (t : Trouble) → IsStreamStop (stop_of t)
+stop_of-stream trouble.Fault = tt
+stop_of-stream trouble.Memory = tt

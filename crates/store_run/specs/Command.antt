@@ -4,7 +4,7 @@ use Rattle.std.specs.declared.alloc.Global.{Global}
 use Rattle.ss_base.specs.declared.profile.Profile.{Profile}
 use Rattle.ss_base.specs.declared.profile.Profile.TheVariants.{Tiny, Small, Large}
 use Rattle.store_run.specs.declared.command.Command.{Command}
-use Rattle.store_run.specs.declared.command.Command.TheVariants.{Names, Segments}
+use Rattle.store_run.specs.declared.command.Command.TheVariants.{Names, Segments, Init}
 
 -- the bytes of each word
 abbrev pub texts : List (String Global) → List (List ℕ)
@@ -20,6 +20,7 @@ profile_word Large = codes "large"
 abbrev pub words_of : Command → List (List ℕ)
 words_of (Names profile) = codes "names" ∷ profile_word profile ∷ []
 words_of (Segments profile) = codes "segments" ∷ profile_word profile ∷ []
+words_of (Init profile) = codes "init" ∷ profile_word profile ∷ []
 
 -- no command has these words
 abbrev pub IsUsage : List (String Global) → Type 0

@@ -12,6 +12,8 @@ pub enum Command {
     Names(Profile),
     /// `segments P`: one line for each segment of the source.
     Segments(Profile),
+    /// `init P`: makes a store.
+    Init(Profile),
 }
 
 /// The command with these words. `None` comes exactly where no command has them.
@@ -26,6 +28,7 @@ pub fn command_of(words: &[String]) -> Option<Command>
     match verb.as_str() {
         "names" => Some(Command::Names(profile)),
         "segments" => Some(Command::Segments(profile)),
+        "init" => Some(Command::Init(profile)),
         _ => None,
     }
 }

@@ -12,7 +12,7 @@ mod segments;
 mod stop;
 
 pub use command::{Command, command_of};
-pub use run::run_solo;
+pub use run::{Lane, run_solo};
 
 #[cfg(test)]
 mod tests;

@@ -3,15 +3,15 @@ ghost use Rattle.std.specs.Prelude.{◌≡◌, ◌≢◌, ◌⊎◌, ◌≤◌, 
 ghost use Rattle.std.specs.Io.KnownBytes.{Appends};
 ghost use Rattle.outside.specs.Bytes.{AppendsFront};
 ghost use Rattle.outside.specs.Faults.{Rose, HasCause};
+ghost use Rattle.ss_base.specs.declared.profile.Profile.{Profile as AnyProfile};
 ghost use Rattle.ss_base.specs.Profile.{numbers_of};
 ghost use Rattle.tttd_chunker.specs.Cut.{cut};
-ghost use Rattle.store_run.specs.declared.command.Command.{Command as AnyCommand};
-ghost use Rattle.store_run.specs.declared.command.Command.TheVariants.{Names as names, Segments as segments};
+ghost use Rattle.store_run.specs.declared.command.Command.TheVariants.{Names as names, Segments as segments, Init as init};
 ghost use Rattle.store_run.specs.declared.stop.Stop.TheVariants.{Memory as memory};
 ghost use Rattle.store_run.specs.Command.{texts, words_of, IsUsage};
 ghost use Rattle.store_run.specs.Stop.{fault_line, status_of, EndsWith};
-ghost use Rattle.store_run.specs.Output.{output_of};
-ghost use Rattle.store_run.specs.Run.{StreamAnswer, UsageAnswer};
+ghost use Rattle.store_run.specs.Output.{names_text, segments_text};
+ghost use Rattle.store_run.specs.Run.{StreamAnswer, InitAnswer, UsageAnswer};
 
 use crate::chunk_lines::ChunkLines;
 use crate::command::{Command, command_of};
@@ -20,33 +20,54 @@ use crate::line_printer::LinePrinter;
 use crate::names::NameLines;
 use crate::segments::SegmentLines;
 use crate::stop::{Halt, Stop};
-use outside::{Sink, Source, Trouble, write_all};
+use journal_file::{CreateFault, create};
+use outside::{Shelf, Sink, Source, Trouble, write_all};
 use ss_base::Profile;
 use std::alloc::Global;
 
 const MAX_STREAM: usize = 1 << 40;
 
+/// What one lane works on: the files of its user, and the objects of the store.
+#[derive(Drop)]
+pub struct Lane<F, K> {
+    pub files: F,
+    pub depot: K,
+}
+
 /// Runs one command in one lane, and answers its status: 0 where all was done and printed, 1 where no command has
-/// the words, 7 where the source gave more than 2^40 bytes, 9 where the sink failed, 12 where the source did. Of
-/// several the least stands. 8 is want of memory. A run that ends early prints its fault line behind the lines of
-/// what it took.
-pub fn run_solo<S: Source, O: Sink>(
+/// the words, 4 where the depot failed, 7 where the source gave more than 2^40 bytes, 9 where the sink failed, 11
+/// where there is a store already, 12 where the source failed. Of several the least stands. 8 is want of memory. A
+/// run that ends early prints its fault line behind the lines of what it took.
+pub fn run_solo<S: Source, O: Sink, F: Shelf, K: Shelf>(
     alloc: Global,
     words: &[String],
     script: &mut S,
     out: &mut O,
+    lane: &mut Lane<F, K>,
 ) -> u8
-    ensures asked { (command : AnyCommand) → texts words.now ≡ words_of command →
-        StreamAnswer (output_of command) (S.left script.old) (S.left script.new) (S.ended script.new)
+    ensures names { (profile : AnyProfile) → texts words.now ≡ words_of (names profile) →
+        StreamAnswer (names_text profile) (S.left script.old) (S.left script.new) (S.ended script.new)
         (O.written out.old) (O.written out.new)
         (Rose (S.faults script.old) (S.faults script.new)) (Rose (O.faults out.old) (O.faults out.new)) result }
+    ensures segments { (profile : AnyProfile) → texts words.now ≡ words_of (segments profile) →
+        StreamAnswer (segments_text profile) (S.left script.old) (S.left script.new) (S.ended script.new)
+        (O.written out.old) (O.written out.new)
+        (Rose (S.faults script.old) (S.faults script.new)) (Rose (O.faults out.old) (O.faults out.new)) result }
+    ensures init { (profile : AnyProfile) → texts words.now ≡ words_of (init profile) →
+        InitAnswer profile (K.held lane.old.depot) (K.held lane.new.depot) (O.written out.old) (O.written out.new)
+        (Rose (K.faults lane.old.depot) (K.faults lane.new.depot)) (Rose (O.faults out.old) (O.faults out.new)) result }
     ensures usage { IsUsage words.now →
         UsageAnswer (O.written out.old) (O.written out.new) (Rose (O.faults out.old) (O.faults out.new)) result }
+
+    // What a command has no part in stays as it was.
+    ensures files { lane.new.files ≡ lane.old.files }
+    ensures depot { ((profile : AnyProfile) → texts words.now ≢ words_of (init profile)) → lane.new.depot ≡ lane.old.depot }
     ensures unread { IsUsage words.now → script.new ≡ script.old }
 {
     match command_of(words) {
         Some(Command::Names(profile)) => print_names(alloc, profile, script, out),
         Some(Command::Segments(profile)) => print_segments(alloc, profile, script, out),
+        Some(Command::Init(profile)) => make_store(profile, &mut lane.depot, out),
         None => refuse(out, &[], Stop::Usage),
     }
 }
@@ -57,7 +78,7 @@ fn print_names<S: Source, O: Sink>(
     script: &mut S,
     out: &mut O,
 ) -> u8
-    ensures answer { StreamAnswer (output_of (names profile)) (S.left script.old) (S.left script.new) (S.ended script.new)
+    ensures answer { StreamAnswer (names_text profile) (S.left script.old) (S.left script.new) (S.ended script.new)
         (O.written out.old) (O.written out.new)
         (Rose (S.faults script.old) (S.faults script.new)) (Rose (O.faults out.old) (O.faults out.new)) result }
 {
@@ -70,7 +91,7 @@ fn print_segments<S: Source, O: Sink>(
     script: &mut S,
     out: &mut O,
 ) -> u8
-    ensures answer { StreamAnswer (output_of (segments profile)) (S.left script.old) (S.left script.new) (S.ended script.new)
+    ensures answer { StreamAnswer (segments_text profile) (S.left script.old) (S.left script.new) (S.ended script.new)
         (O.written out.old) (O.written out.new)
         (Rose (S.faults script.old) (S.faults script.new)) (Rose (O.faults out.old) (O.faults out.new)) result }
 {
@@ -81,6 +102,19 @@ fn print_segments<S: Source, O: Sink>(
         script,
         out,
     )
+}
+
+// Makes the journal of a store.
+fn make_store<O: Sink, K: Shelf>(profile: Profile, depot: &mut K, out: &mut O) -> u8
+    ensures answer { InitAnswer profile (K.held depot.old) (K.held depot.new) (O.written out.old) (O.written out.new)
+        (Rose (K.faults depot.old) (K.faults depot.new)) (Rose (O.faults out.old) (O.faults out.new)) result }
+{
+    match create(depot, profile) {
+        Ok(()) => 0,
+        Err(CreateFault::AlreadyStore) => refuse(out, &[], Stop::AlreadyStore),
+        Err(CreateFault::Shelf) => refuse(out, &[], Stop::DepotFault),
+        Err(CreateFault::Memory) => refuse(out, &[], Stop::Memory),
+    }
 }
 
 // Prints the lines of the source's chunks.

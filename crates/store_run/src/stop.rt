@@ -9,7 +9,6 @@ ghost use Rattle.store_run.specs.declared.stop.Halt.TheVariants.{Early, Unprinte
 
 use outside::Trouble;
 use ss_base::Memory as OutOfMemory;
-use std::alloc::AllocError;
 
 /// Why a run ends before it has printed its output.
 #[derive(Clone, Copy, Debug, PartialEq, Eq)]
@@ -20,16 +19,12 @@ pub enum Stop {
     TooLong,
     /// Memory was wanted.
     Memory,
+    /// There is a store already.
+    AlreadyStore,
     /// The source failed.
     SourceFault,
-}
-
-impl From<AllocError> for Stop {
-    ghost from_gives = { λ _ why. why ≡ Memory };
-
-    fn from(_: AllocError) -> Self {
-        Stop::Memory
-    }
+    /// The depot failed.
+    DepotFault,
 }
 
 impl Stop {
@@ -51,7 +46,9 @@ impl Stop {
             Stop::Usage => b"usage\n",
             Stop::TooLong => b"limit stream\n",
             Stop::Memory => b"memory\n",
+            Stop::AlreadyStore => b"already a store\n",
             Stop::SourceFault => b"source fault\n",
+            Stop::DepotFault => b"depot fault\n",
         }
     }
 
@@ -61,8 +58,10 @@ impl Stop {
     {
         match self {
             Stop::Usage => 1,
+            Stop::DepotFault => 4,
             Stop::TooLong => 7,
             Stop::Memory => 8,
+            Stop::AlreadyStore => 11,
             Stop::SourceFault => 12,
         }
     }

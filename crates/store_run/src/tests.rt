@@ -3,7 +3,7 @@ use crate::feed_source::feed;
 use crate::line_printer::LinePrinter;
 use crate::names::NameLines;
 use crate::stop::{Halt, Stop};
-use outside::{MemSink, MemSource};
+use outside::{MemShelf, MemSink, MemSource};
 use ss_base::Profile;
 use std::alloc::Global;
 use std::test::Fail;
@@ -17,6 +17,23 @@ fn owned(alloc: Global, words: &[&str]) -> Result<Vec<String>, Fail> {
     Ok(all)
 }
 
+// A lane without files and without a store; the depot's calls with these numbers fail.
+fn empty_lane(alloc: Global, fails: &[u32]) -> Result<Lane<MemShelf, MemShelf>, Fail> {
+    Ok(Lane {
+        files: MemShelf::new(alloc, Vec::new(alloc)),
+        depot: MemShelf::new(alloc, fails.to_vec(alloc)?),
+    })
+}
+
+// The status of `init tiny` in this lane, and what it printed.
+fn init(alloc: Global, lane: &mut Lane<MemShelf, MemShelf>) -> Result<(u8, Vec<u8>), Fail> {
+    let words = owned(alloc, &["init", "tiny"])?;
+    let mut script = MemSource::new(Vec::new(alloc), Vec::new(alloc));
+    let mut out = MemSink::new(alloc, Vec::new(alloc));
+    let status = run_solo(alloc, &words, &mut script, &mut out, lane);
+    Ok((status, out.bytes().to_vec(alloc)?))
+}
+
 // The status of a run over these bytes, and what it printed; the calls with these numbers fail.
 fn run(
     alloc: Global,
@@ -28,7 +45,8 @@ fn run(
     let words = owned(alloc, words)?;
     let mut script = MemSource::new(bytes.to_vec(alloc)?, source_fails.to_vec(alloc)?);
     let mut out = MemSink::new(alloc, sink_fails.to_vec(alloc)?);
-    let status = run_solo(alloc, &words, &mut script, &mut out);
+    let mut lane = empty_lane(alloc, &[])?;
+    let status = run_solo(alloc, &words, &mut script, &mut out, &mut lane);
     Ok((status, out.bytes().to_vec(alloc)?))
 }
 
@@ -148,9 +166,10 @@ fn fault_in_mid_stream(rt: HostRuntime) -> Result<(), Fail> {
 #[test]
 fn words_of_no_command(rt: HostRuntime) -> Result<(), Fail> {
     let alloc = rt.alloc();
-    let rows: [&[&str]; 8] = [
+    let rows: [&[&str]; 9] = [
         &[],
         &["segments"],
+        &["init", "medium"],
         &["names"],
         &["names", "huge"],
         &["names", "tiny", "tiny"],
@@ -199,6 +218,33 @@ fn third_write_fails(rt: HostRuntime) -> Result<(), Fail> {
     assert_eq!(rt; status, 9);
     assert_eq!(rt; printed.len(), 131_100);
     assert!(rt; whole.starts_with(&printed));
+    Ok(())
+}
+
+#[test]
+fn stores_are_made_once(rt: HostRuntime) -> Result<(), Fail> {
+    let alloc = rt.alloc();
+    let mut lane = empty_lane(alloc, &[])?;
+    for (expected, text) in [
+        (0, ""),
+        (11, "already a store\n"),
+        (11, "already a store\n"),
+    ] {
+        let (status, printed) = init(alloc, &mut lane)?;
+        assert_eq!(rt; status, expected);
+        assert_eq!(rt; printed.as_slice(), text.as_bytes());
+        assert_eq!(rt;
+            lane.depot.get("journal"),
+            Some(b"SSJ1\x01\0\0\0".as_slice())
+        );
+    }
+    for fails in [[1], [2]] {
+        let mut lane = empty_lane(alloc, &fails)?;
+        let (status, printed) = init(alloc, &mut lane)?;
+        assert_eq!(rt; status, 4);
+        assert_eq!(rt; printed.as_slice(), b"depot fault\n".as_slice());
+        assert!(rt; lane.depot.get("journal").is_none());
+    }
     Ok(())
 }
 

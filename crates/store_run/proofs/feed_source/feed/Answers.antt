@@ -4,8 +4,10 @@ use Rattle.std.proofs.lemmas.Bool.{eqb-true}
 use Rattle.std.proofs.lemmas.Result.{err_from_is_err_and}
 use Rattle.std.proofs.KnownBytes.{Consumes-nil}
 use Rattle.store_run.specs.LinePrinter.{still}
+use Rattle.store_run.specs.Stop.{IsStreamStop}
 use Rattle.store_run.proofs.FeedLaws.{under_way-start, under_way-read, under_way-printed, under_way-cut, halted, consumes-kept}
-use Rattle.store_run.proofs.ResultLaws.{nothing, on_early, on_early_weaker, on_unprinted_weaker}
+use Rattle.store_run.proofs.StatusLaws.{stop_of-stream}
+use Rattle.store_run.proofs.ResultLaws.{nothing, on_early_weaker, on_unprinted_weaker}
 use Rattle.store_run.proofs.feed_source.feed.Goals as goal
 
 pub loop-piece-init : goal.loop-piece-init
@@ -31,7 +33,7 @@ returns-then-is_empty-clause-early g c =
     let at_end = subst (Consumes (source.left c.loop-piece.source) (source.left c.read.new.self)) empty c.in-Ok.ensures.bytes in
     let read = under_way-read _ _ (source.left c.read.new.self) _ _ (still maker.text c.args.printer.now) (still maker.text old) (still maker.text old) [] way at_end (λ (more : List ℕ). refl) in
     on_early_weaker c.finish.result
-    (λ why early. halted maker.text c.finish.new.self _ _ _ _ _ _ [] (under_way-printed _ _ _ _ _ _ _ (still maker.text c.finish.new.self) read.0 early.1).0 (Consumes-nil _))
+    (λ why early. (subst IsStreamStop (sym early.0) tt, halted maker.text c.finish.new.self _ _ _ _ _ _ [] (under_way-printed _ _ _ _ _ _ _ (still maker.text c.finish.new.self) read.0 early.1).0 (Consumes-nil _)))
     c.finish.ensures.early
 
 pub returns-then-is_empty-clause-unprinted : goal.returns-then-is_empty-clause-unprinted
@@ -53,12 +55,14 @@ returns-then-len-limit-clause-early g c =
     let sink = g.O.Sink in
     let old = c.loop-piece.printer in
     let way = c.loop-piece.invariant.fed.0 in
-    halted maker.text old _ _ _ _ _ _ c.in-Ok.piece.items way c.in-Ok.ensures.bytes
+    (tt, halted maker.text old _ _ _ _ _ _ c.in-Ok.piece.items way c.in-Ok.ensures.bytes)
 
 pub returns-in-Err-clause-early : goal.returns-in-Err-clause-early
 returns-in-Err-clause-early g c =
-    let maker = g.L.ChunkLines in
-    halted maker.text c.loop-piece.printer _ _ _ _ _ _ [] c.loop-piece.invariant.fed.0 (consumes-kept _ _ c.in-Err.ensures.bytes)
+    let maker = g.L.ChunkLines in (
+      subst IsStreamStop (sym c.of_source.ensures) (stop_of-stream c.in-Err.trouble),
+      halted maker.text c.loop-piece.printer _ _ _ _ _ _ [] c.loop-piece.invariant.fed.0 (consumes-kept _ _ c.in-Err.ensures.bytes),
+    )
 
 pub returns-in_err-push-clause-early : goal.returns-in_err-push-clause-early
 returns-in_err-push-clause-early g c =
@@ -68,7 +72,8 @@ returns-in_err-push-clause-early g c =
     let old = c.loop-piece.printer in
     let way = c.loop-piece.invariant.fed.0 in
     let kept = under_way-read _ _ _ _ _ (still maker.text c.args.printer.now) (still maker.text old) (still maker.text c.push.new.self) [] way (Consumes-nil _) c.in_err-push.ensures.err in
-    on_early c.from_residual.result (halted maker.text c.push.new.self _ _ _ _ _ _ c.in-Ok.piece.items kept.0 c.in-Ok.ensures.bytes)
+    let p = err_from_is_err_and c.from_residual.result c.from_residual.ensures.1 in
+    rw (p.1, p.2) (tt, halted maker.text c.push.new.self _ _ _ _ _ _ c.in-Ok.piece.items kept.0 c.in-Ok.ensures.bytes)
 
 pub returns-in_err-print_ready-clause-early : goal.returns-in_err-print_ready-clause-early
 returns-in_err-print_ready-clause-early g c =
@@ -83,7 +88,7 @@ returns-in_err-print_ready-clause-early g c =
     let p = err_from_is_err_and c.from_residual-in_err-print_ready.result c.from_residual-in_err-print_ready.ensures.1 in
     let halt = c.in_err-print_ready.field-0.0 in
     rw (p.1, p.2) (on_early_weaker {T = Unit {0}} (Err halt)
-    (λ why early. halted maker.text c.print_ready.new.self _ _ _ _ _ _ [] (under_way-printed _ _ _ _ _ _ _ (still maker.text c.print_ready.new.self) read.0 early.1).0 (Consumes-nil _))
+    (λ why early. (subst IsStreamStop (sym early.0) tt, halted maker.text c.print_ready.new.self _ _ _ _ _ _ [] (under_way-printed _ _ _ _ _ _ _ (still maker.text c.print_ready.new.self) read.0 early.1).0 (Consumes-nil _)))
     c.in_err-print_ready.ensures.early)
 
 pub returns-in_err-print_ready-clause-unprinted : goal.returns-in_err-print_ready-clause-unprinted

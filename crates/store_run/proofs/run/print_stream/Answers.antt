@@ -8,7 +8,7 @@ use Rattle.outside.proofs.FaultLaws.{Rose-after}
 use Rattle.ss_base.specs.Profile.{numbers_of}
 use Rattle.tttd_chunker.specs.Cut.{cut}
 use Rattle.store_run.specs.declared.stop.Stop.{Stop}
-use Rattle.store_run.specs.declared.stop.Stop.TheVariants.{Usage, TooLong, Memory, SourceFault}
+use Rattle.store_run.specs.declared.stop.Stop.TheVariants.{TooLong, Memory, SourceFault}
 use Rattle.store_run.specs.Feed.{IsHalted}
 use Rattle.std.specs.Prelude.{Result}
 use Rattle.store_run.specs.declared.stop.Halt.{Halt}
@@ -16,7 +16,7 @@ use Rattle.store_run.specs.declared.stop.Halt.TheVariants.{Early, Unprinted}
 use Rattle.store_run.specs.LinePrinter.{still}
 use Rattle.store_run.specs.Run.{StreamAnswer}
 use Rattle.store_run.proofs.AnswerLaws.{answer-done, answer-sink, answer-memory, answer-early}
-use Rattle.store_run.proofs.StatusLaws.{memory-usage, memory-too_long, memory-source_fault}
+use Rattle.store_run.proofs.StatusLaws.{too_long-memory, source_fault-memory}
 use Rattle.store_run.proofs.run.print_stream.Goals as goal
 
 pub returns-in_default : goal.returns-in_default
@@ -27,9 +27,9 @@ returns-in_default g c =
           (record { bytes = []; taken = Consumes-nil _; done = []; rest = text []; written_so_far = Appends-none _; split = refl })
           (record {
             ends = c.refuse.ensures.answers;
-            no_usage = memory-usage;
-            too_long = λ e. absurd (memory-too_long e);
-            source_fault = λ e. absurd (memory-source_fault e);
+            stop = tt;
+            too_long = λ e. absurd (too_long-memory (sym e));
+            source_fault = λ e. absurd (source_fault-memory (sym e));
             sink_fault = c.refuse.ensures.sink_fault;
             line = c.refuse.ensures.line;
             whole = c.refuse.ensures.whole;
@@ -59,9 +59,10 @@ returns-in-Err-Early g c =
     let why = c.in-Err-Early.why in
     let is = c.in-Err-Early.field-0-is in
     let cause = λ (stop : Stop) (e : why ≡ stop). ap {B = Result (Unit {0}) Halt} Err (is ∙ ap Early e) in
+    let early = rw is at c.in-Err-Early.ensures.early in
     let halted =
     subst (IsHalted (source.left c.args.script.now) (source.left c.feed.new.source) (sink.written c.args.out.now) (sink.written c.feed.new.out) (still g.L.ChunkLines.text c.in-Ok.printer))
-    (sym c.waiting.ensures) (rw is at c.in-Err-Early.ensures.early) in
+    (sym c.waiting.ensures) early.1 in
     let rose_later = λ (rose : Rose (sink.faults c.feed.new.out) (sink.faults c.refuse-in-Err-Early.new.out)). Rose-after (sink.faults c.args.out.now) _ _ c.in-Err-Early.ensures.later rose in
     let refuse = c.refuse-in-Err-Early in
     record {
@@ -72,7 +73,7 @@ returns-in-Err-Early g c =
           (answer-early (still g.L.ChunkLines.text c.in-Ok.printer) _ _ _ _ (sink.written c.feed.new.out) _ _ _ why c.waiting.result.now refuse.result halted
           (record {
             ends = refuse.ensures.answers;
-            no_usage = λ e. c.in-Err-Early.ensures.no_usage (cause Usage e);
+            stop = early.0;
             too_long = λ e. c.in-Err-Early.ensures.too_long (cause TooLong e);
             source_fault = λ e. c.in-Err-Early.ensures.source_fault (cause SourceFault e);
             sink_fault = λ e. rose_later (refuse.ensures.sink_fault e);
