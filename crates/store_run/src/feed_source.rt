@@ -29,13 +29,16 @@ pub fn feed<L: ChunkLines, S: Source, O: Sink>(
     requires no_cut { has_cut (numbers_of printer.old.chunker.profile) printer.old.chunker.bytes ≡ false }
     ensures ok { OnOk result (IsPrinted limit (S.left source.old) (S.left source.new) (S.ended source.new)
         (O.written out.old) (O.written out.new) (still L.text printer.old)) }
-    ensures early { OnEarly result (λ why. IsStreamStop why × IsHalted (S.left source.old) (S.left source.new)
+    ensures early { OnEarly result (λ why. IsStreamStop why × IsHalted (S.left source.old)
+        (S.left source.new)
         (O.written out.old) (O.written out.new) (still L.text printer.old) printer.new.waiting.items) }
     ensures unprinted { OnUnprinted result (IsCutShort (S.left source.old) (S.left source.new)
         (O.written out.old) (O.written out.new) (still L.text printer.old)) }
     ensures too_long { IsErrOf result (Halt.Early Stop.TooLong) → Exceeds limit (S.left source.old) }
-    ensures source_fault { IsErrOf result (Halt.Early Stop.SourceFault) → Rose (S.faults source.old) (S.faults source.new) }
-    ensures sink_fault { IsErrOf result (Halt.Unprinted Trouble.Fault) → Rose (O.faults out.old) (O.faults out.new) }
+    ensures source_fault { IsErrOf result (Halt.Early Stop.SourceFault) → Rose (S.faults source.old)
+        (S.faults source.new) }
+    ensures sink_fault { IsErrOf result (Halt.Unprinted Trouble.Fault) → Rose (O.faults out.old)
+        (O.faults out.new) }
     ensures later { O.faults out.old ≤ O.faults out.new }
 {
     let mut taken = 0;

@@ -31,8 +31,10 @@ impl<L: ChunkLines> LinePrinter<L> {
     pub fn new(alloc: Global, profile: Profile, lines: L) -> Result<Self, Memory>
         requires { (numbers_of profile).tmax ≤ L.most lines }
         ensures fits { IfOk result (Fits L.most) }
-        ensures text { IfOk result (λ printer. (more : List ℕ) → still L.text printer more ≡ L.text lines (cut (numbers_of profile) more)) }
-        ensures no_cut { IfOk result (λ printer. has_cut (numbers_of printer.chunker.profile) printer.chunker.bytes ≡ false) }
+        ensures text { IfOk result (λ printer.
+            (more : List ℕ) → still L.text printer more ≡ L.text lines (cut (numbers_of profile) more)) }
+        ensures no_cut { IfOk result (λ printer. has_cut
+            (numbers_of printer.chunker.profile) printer.chunker.bytes ≡ false) }
     {
         Ok(LinePrinter {
             chunker: Chunker::new(alloc, profile)?,
@@ -52,8 +54,10 @@ impl<L: ChunkLines> LinePrinter<L> {
     pub fn push(&mut self, bytes: &[u8]) -> Result<(), Memory>
         requires { Fits L.most self.old }
         ensures fits { Fits L.most self.new }
-        ensures ok { OnOk result ((more : List ℕ) → still L.text self.new more ≡ still L.text self.old (bytes.now ++ more)) }
-        ensures err { OnErr result ((more : List ℕ) → still L.text self.new more ≡ still L.text self.old more) }
+        ensures ok { OnOk result ((more : List ℕ) → still L.text self.new more ≡ still L.text self.old
+            (bytes.now ++ more)) }
+        ensures err { OnErr result
+            ((more : List ℕ) → still L.text self.new more ≡ still L.text self.old more) }
     {
         self.chunker.push(bytes)
     }
@@ -62,13 +66,18 @@ impl<L: ChunkLines> LinePrinter<L> {
     pub fn print_ready<O: Sink>(&mut self, alloc: Global, out: &mut O) -> Result<(), Halt>
         requires { Fits L.most self.old }
         ensures fits { Fits L.most self.new }
-        ensures ok { OnOk result (Advances (O.written out.old) (O.written out.new) (still L.text self.old) (still L.text self.new)) }
-        ensures no_cut { OnOk result (has_cut (numbers_of self.new.chunker.profile) self.new.chunker.bytes ≡ false) }
+        ensures ok { OnOk result (Advances (O.written out.old) (O.written out.new)
+            (still L.text self.old) (still L.text self.new)) }
+        ensures no_cut { OnOk result (has_cut
+            (numbers_of self.new.chunker.profile) self.new.chunker.bytes ≡ false) }
         ensures early { OnEarly result (λ why. (why ≡ Stop.Memory)
-            × Advances (O.written out.old) (O.written out.new) (still L.text self.old) (still L.text self.new)) }
-        ensures unprinted { OnUnprinted result (AppendsFront (O.written out.old) (O.written out.new) (still L.text self.old [])) }
+            × Advances (O.written out.old) (O.written out.new) (still L.text self.old)
+            (still L.text self.new)) }
+        ensures unprinted { OnUnprinted result (AppendsFront (O.written out.old) (O.written out.new)
+            (still L.text self.old [])) }
         ensures later { O.faults out.old ≤ O.faults out.new }
-        ensures fault { IsErrOf result (Halt.Unprinted Trouble.Fault) → Rose (O.faults out.old) (O.faults out.new) }
+        ensures fault { IsErrOf result (Halt.Unprinted Trouble.Fault) → Rose (O.faults out.old)
+            (O.faults out.new) }
     {
         while let Some(chunk) = self.chunker.next(alloc)? {
             print_chunk(alloc, &mut self.lines, &mut self.waiting, &chunk, out)?;
@@ -80,12 +89,16 @@ impl<L: ChunkLines> LinePrinter<L> {
     pub fn finish<O: Sink>(&mut self, alloc: Global, out: &mut O) -> Result<(), Halt>
         requires fits { Fits L.most self.old }
         requires no_cut { has_cut (numbers_of self.old.chunker.profile) self.old.chunker.bytes ≡ false }
-        ensures ok { OnOk result (Appends (O.written out.old) (O.written out.new) (still L.text self.old [])) }
+        ensures ok { OnOk result (Appends (O.written out.old) (O.written out.new)
+            (still L.text self.old [])) }
         ensures early { OnEarly result (λ why. (why ≡ Stop.Memory)
-            × Advances (O.written out.old) (O.written out.new) (still L.text self.old) (still L.text self.new)) }
-        ensures unprinted { OnUnprinted result (AppendsFront (O.written out.old) (O.written out.new) (still L.text self.old [])) }
+            × Advances (O.written out.old) (O.written out.new) (still L.text self.old)
+            (still L.text self.new)) }
+        ensures unprinted { OnUnprinted result (AppendsFront (O.written out.old) (O.written out.new)
+            (still L.text self.old [])) }
         ensures later { O.faults out.old ≤ O.faults out.new }
-        ensures fault { IsErrOf result (Halt.Unprinted Trouble.Fault) → Rose (O.faults out.old) (O.faults out.new) }
+        ensures fault { IsErrOf result (Halt.Unprinted Trouble.Fault) → Rose (O.faults out.old)
+            (O.faults out.new) }
     {
         let Some(chunk) = self.chunker.rest(alloc)? else {
             return Ok(print_rest(alloc, &mut self.lines, &mut self.waiting, out)?);

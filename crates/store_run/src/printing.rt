@@ -27,7 +27,8 @@ pub fn print_chunk<L: ChunkLines, O: Sink>(
     ensures ok { OnOk result (Advances (O.written out.old) (O.written out.new)
         (λ later. waiting.old.items ++ L.text lines.old (chunk.now ∷ later)) (λ later. waiting.new.items ++ L.text lines.new later)) }
     ensures err { OnErr result ((later : List (List ℕ)) →
-        AppendsFront (O.written out.old) (O.written out.new) (waiting.old.items ++ L.text lines.old (chunk.now ∷ later))) }
+        AppendsFront (O.written out.old) (O.written out.new) (waiting.old.items ++ L.text lines.old
+        (chunk.now ∷ later))) }
     ensures cause { HasCause (O.faults out.old) (O.faults out.new) result }
 {
     let text = lines.add(alloc, chunk)?;
@@ -42,8 +43,10 @@ pub fn print_rest<L: ChunkLines, O: Sink>(
     waiting: &mut Vec<u8>,
     out: &mut O,
 ) -> Result<(), Trouble>
-    ensures ok { OnOk result (Appends (O.written out.old) (O.written out.new) (waiting.old.items ++ L.text lines.old [])) }
-    ensures err { OnErr result (AppendsFront (O.written out.old) (O.written out.new) (waiting.old.items ++ L.text lines.old [])) }
+    ensures ok { OnOk result (Appends (O.written out.old) (O.written out.new)
+        (waiting.old.items ++ L.text lines.old [])) }
+    ensures err { OnErr result (AppendsFront (O.written out.old) (O.written out.new)
+        (waiting.old.items ++ L.text lines.old [])) }
     ensures cause { HasCause (O.faults out.old) (O.faults out.new) result }
 {
     let text = lines.rest(alloc)?;
@@ -54,8 +57,10 @@ pub fn print_rest<L: ChunkLines, O: Sink>(
 // Adds text to what waits, and writes what waits once it is long enough. After an `Err` a front of both may have
 // been written.
 fn print_text<O: Sink>(out: &mut O, waiting: &mut Vec<u8>, text: &[u8]) -> Result<(), Trouble>
-    ensures ok { OnOk result (Moves (O.written out.old) (O.written out.new) waiting.old.items waiting.new.items text.now) }
-    ensures err { OnErr result (AppendsFront (O.written out.old) (O.written out.new) (waiting.old.items ++ text.now)) }
+    ensures ok { OnOk result (Moves (O.written out.old)
+        (O.written out.new) waiting.old.items waiting.new.items text.now) }
+    ensures err { OnErr result (AppendsFront (O.written out.old) (O.written out.new)
+        (waiting.old.items ++ text.now)) }
     ensures cause { HasCause (O.faults out.old) (O.faults out.new) result }
 {
     waiting.extend_from_slice(text)?;

@@ -54,15 +54,19 @@ pub fn run_solo<S: Source, O: Sink, F: Shelf, K: Shelf>(
         (O.written out.old) (O.written out.new)
         (Rose (S.faults script.old) (S.faults script.new)) (Rose (O.faults out.old) (O.faults out.new)) result }
     ensures init { (profile : AnyProfile) → texts words.now ≡ words_of (init profile) →
-        InitAnswer profile (K.held lane.old.depot) (K.held lane.new.depot) (O.written out.old) (O.written out.new)
+        InitAnswer profile (K.held lane.old.depot) (K.held lane.new.depot) (O.written out.old)
+        (O.written out.new)
         (Rose (K.faults lane.old.depot) (K.faults lane.new.depot)) (Rose (O.faults out.old) (O.faults out.new)) result }
     ensures usage { IsUsage words.now →
-        UsageAnswer (O.written out.old) (O.written out.new) (Rose (O.faults out.old) (O.faults out.new)) result }
+        UsageAnswer (O.written out.old) (O.written out.new) (Rose (O.faults out.old)
+        (O.faults out.new)) result }
 
     // What a command has no part in stays as it was.
     ensures files { lane.new.files ≡ lane.old.files }
-    ensures depot { ((profile : AnyProfile) → texts words.now ≢ words_of (init profile)) → lane.new.depot ≡ lane.old.depot }
+    ensures depot { ((profile : AnyProfile) → texts words.now ≢ words_of
+        (init profile)) → lane.new.depot ≡ lane.old.depot }
     ensures unread { IsUsage words.now → script.new ≡ script.old }
+    ensures init_unread { (profile : AnyProfile) → texts words.now ≡ words_of (init profile) → script.new ≡ script.old }
 {
     match command_of(words) {
         Some(Command::Names(profile)) => print_names(alloc, profile, script, out),
@@ -78,7 +82,8 @@ fn print_names<S: Source, O: Sink>(
     script: &mut S,
     out: &mut O,
 ) -> u8
-    ensures answer { StreamAnswer (names_text profile) (S.left script.old) (S.left script.new) (S.ended script.new)
+    ensures answer { StreamAnswer (names_text profile) (S.left script.old) (S.left script.new)
+        (S.ended script.new)
         (O.written out.old) (O.written out.new)
         (Rose (S.faults script.old) (S.faults script.new)) (Rose (O.faults out.old) (O.faults out.new)) result }
 {
@@ -91,7 +96,8 @@ fn print_segments<S: Source, O: Sink>(
     script: &mut S,
     out: &mut O,
 ) -> u8
-    ensures answer { StreamAnswer (segments_text profile) (S.left script.old) (S.left script.new) (S.ended script.new)
+    ensures answer { StreamAnswer (segments_text profile) (S.left script.old) (S.left script.new)
+        (S.ended script.new)
         (O.written out.old) (O.written out.new)
         (Rose (S.faults script.old) (S.faults script.new)) (Rose (O.faults out.old) (O.faults out.new)) result }
 {
@@ -106,7 +112,8 @@ fn print_segments<S: Source, O: Sink>(
 
 // Makes the journal of a store.
 fn make_store<O: Sink, K: Shelf>(profile: Profile, depot: &mut K, out: &mut O) -> u8
-    ensures answer { InitAnswer profile (K.held depot.old) (K.held depot.new) (O.written out.old) (O.written out.new)
+    ensures answer { InitAnswer profile (K.held depot.old) (K.held depot.new) (O.written out.old)
+        (O.written out.new)
         (Rose (K.faults depot.old) (K.faults depot.new)) (Rose (O.faults out.old) (O.faults out.new)) result }
 {
     match create(depot, profile) {
@@ -126,7 +133,8 @@ fn print_stream<L: ChunkLines, S: Source, O: Sink>(
     out: &mut O,
 ) -> u8
     requires { (numbers_of profile).tmax ≤ L.most lines }
-    ensures answer { StreamAnswer (λ bytes. L.text lines (cut (numbers_of profile) bytes)) (S.left script.old) (S.left script.new) (S.ended script.new)
+    ensures answer { StreamAnswer (λ bytes. L.text lines (cut (numbers_of profile) bytes))
+        (S.left script.old) (S.left script.new) (S.ended script.new)
         (O.written out.old) (O.written out.new)
         (Rose (S.faults script.old) (S.faults script.new)) (Rose (O.faults out.old) (O.faults out.new)) result }
 {
@@ -146,7 +154,8 @@ fn refuse<O: Sink>(out: &mut O, waiting: &[u8], why: Stop) -> u8
     ensures answers { EndsWith why result }
     ensures line { AppendsFront (O.written out.old) (O.written out.new) (waiting.now ++ fault_line why) }
     ensures whole { why ≢ memory → result ≡ status_of why →
-        Appends (O.written out.old) (O.written out.new) (waiting.now ++ fault_line why) ⊎ Rose (O.faults out.old) (O.faults out.new) }
+        Appends (O.written out.old) (O.written out.new) (waiting.now ++ fault_line why) ⊎ Rose
+        (O.faults out.old) (O.faults out.new) }
     ensures sink_fault { result ≡ 9 → Rose (O.faults out.old) (O.faults out.new) }
 {
     match write_both(out, waiting, why.line()) {
@@ -161,7 +170,8 @@ fn refuse<O: Sink>(out: &mut O, waiting: &[u8], why: Stop) -> u8
 
 fn write_both<O: Sink>(out: &mut O, first: &[u8], second: &[u8]) -> Result<(), Trouble>
     ensures ok { OnOk result (Appends (O.written out.old) (O.written out.new) (first.now ++ second.now)) }
-    ensures err { OnErr result (AppendsFront (O.written out.old) (O.written out.new) (first.now ++ second.now)) }
+    ensures err { OnErr result (AppendsFront (O.written out.old) (O.written out.new)
+        (first.now ++ second.now)) }
     ensures cause { HasCause (O.faults out.old) (O.faults out.new) result }
 {
     write_all(out, first)?;
