@@ -50,7 +50,7 @@ pub fn plan(
     Ok(laid)
 }
 
-// How many bytes so many records, with so many bytes of chunks, can add to one container, in general.
+// How many bytes so many records, with so many bytes of chunks, can add to one container.
 fn space(bytes: usize, records: usize, room: u32) -> usize
     requires { records < 2 ^ 32 }
 {

@@ -4,3 +4,4 @@ pub mod Parts
 pub mod StreamName
 pub mod ObjectName
 pub mod Padded
+pub mod Origins
