@@ -1,5 +1,5 @@
 -- A journal that comes in pieces.
-use Rattle.std.proofs.Common.{◌≡◌, ◌≢◌, ℕ, ◌+◌, ◌<◌, ◌≤◌, List, [], ◌∷◌, ◌++◌, length, take, drop, refl, sym, ap, subst, ◌∙◌, append_assoc, arith, Option, Some, None}
+use Rattle.std.proofs.Common.{◌≡◌, ◌≢◌, ℕ, ◌+◌, ◌<◌, ◌≤◌, List, [], ◌∷◌, ◌++◌, length, get_or, take, drop, refl, sym, ap, subst, ◌∙◌, append_assoc, arith, Option, Some, None}
 use Rattle.std.proofs.lemmas.List.{length-append, take-append-le, take-append-drop, take_at, drop_at}
 use Rattle.ss_base.specs.declared.profile.Profile.{Profile}
 use Rattle.ss_base.specs.declared.profile.Profile.TheVariants.{Tiny, Small, Large}
@@ -20,14 +20,15 @@ length-header Large = refl
 pub no_header_later : (bytes : List ℕ) → 8 ≤ length bytes → HasNoHeader bytes → (later : List ℕ) → HasNoHeader (bytes ++ later)
 no_header_later bytes long none later profile rest is =
     let front : take 8 bytes ≡ header_text profile =
-      sym (take-append-le 8 bytes later long) ∙ ap (take 8) is ∙ take_at (header_text profile) rest 8 (length-header profile) in
+    sym (take-append-le 8 bytes later long) ∙ ap (take 8) is ∙ take_at (header_text profile) rest 8 (length-header profile) in
     none profile (drop 8 bytes) (sym (take-append-drop 8 bytes) ∙ ap (λ (l : List ℕ). l ++ drop 8 bytes) front)
 
 -- two journals that are alike have bodies alike
-same_body : (p q : Profile) (x y : List ℕ) → header_text p ++ x ≡ header_text q ++ y → x ≡ y
+pub same_body : (p q : Profile) (x y : List ℕ) → header_text p ++ x ≡ header_text q ++ y → x ≡ y
 same_body p q x y is = sym (drop_at (header_text p) x 8 (length-header p)) ∙ ap (drop 8) is ∙ drop_at (header_text q) y 8 (length-header q)
 
-same_header : (p q : Profile) (x y : List ℕ) → header_text p ++ x ≡ header_text q ++ y → header_text p ≡ header_text q
+-- and headers too
+pub same_header : (p q : Profile) (x y : List ℕ) → header_text p ++ x ≡ header_text q ++ y → header_text p ≡ header_text q
 same_header p q x y is = sym (take_at (header_text p) x 8 (length-header p)) ∙ ap (take 8) is ∙ take_at (header_text q) y 8 (length-header q)
 
 -- what was read and a further piece are a header and a body
@@ -74,3 +75,18 @@ fault_later (BadEntry place) p text body is bad later = record {
     no_front : (x y : List ℕ) → x ++ y ≡ [] → x ≡ []
     no_front [] y none = refl
     no_front (b ∷ x) y none = (cc)
+
+different : (x y : List ℕ) → get_or x 4 0 ≢ get_or y 4 0 → x ≢ y
+different x y codes is = codes (ap (λ (l : List ℕ). get_or l 4 0) is)
+
+-- a header is that of one profile
+pub same_profile : (p q : Profile) → header_text p ≡ header_text q → p ≡ q
+same_profile Tiny Tiny is = refl
+same_profile Tiny Small is = absurd (different (header_text Tiny) (header_text Small) (omega arith) is)
+same_profile Tiny Large is = absurd (different (header_text Tiny) (header_text Large) (omega arith) is)
+same_profile Small Tiny is = absurd (different (header_text Small) (header_text Tiny) (omega arith) is)
+same_profile Small Small is = refl
+same_profile Small Large is = absurd (different (header_text Small) (header_text Large) (omega arith) is)
+same_profile Large Tiny is = absurd (different (header_text Large) (header_text Tiny) (omega arith) is)
+same_profile Large Small is = absurd (different (header_text Large) (header_text Small) (omega arith) is)
+same_profile Large Large is = refl

@@ -32,12 +32,18 @@ length-front scan front =
     let entries = scan.found.entries.items in
     let texts = length-entries entries front.found.valid in
     let count = front.found.fits.count in
-    omega (arith, length-append (head_text scan.profile) (entries_text entries ++ scan.pending.items), length-append (entries_text entries) scan.pending.items,
-        length-head scan.profile, length-pending scan.profile entries scan.pending.items front.rest)
+    omega (
+      arith,
+      length-append (head_text scan.profile) (entries_text entries ++ scan.pending.items),
+      length-append (entries_text entries) scan.pending.items,
+      length-head scan.profile,
+      length-pending scan.profile entries scan.pending.items front.rest,
+    )
   where
     length-head : (profile : Option Profile) → length (head_text profile) ≤ 8
     length-head None = omega arith
     length-head (Some p) = omega (arith, length-header p)
+
     length-pending : (profile : Option Profile) (entries : List Entry) (pending : List ℕ) → IsPending profile entries pending → length pending < 133124
     length-pending None entries pending rest = omega (arith, rest.1)
     length-pending (Some p) entries pending rest = rest.1
@@ -104,7 +110,6 @@ told_more (Some objects) text piece place told given =
 module _ (held : Option Objects) (old gave new : Option (List Given)) (text piece : List ℕ) (place : ℕ) (before : IsSoFar held old gave text place)
     (read : new ≡ one_more gave (read_of journal_name place 65536 piece))
     (given : IfSome held (λ objects. piece ≡ part_of (bytes_of objects journal_name) place 65536)) where
-
   gave_more : new ≡ with_reads old (before.pieces ++ piece ∷ [])
   gave_more =
       read ∙ ap (λ (o : Option (List Given)). one_more o (read_of journal_name place 65536 piece)) before.gave
@@ -148,7 +153,6 @@ ends_with (Err fault) pieces end = inr end
 module _ (held : Option Objects) (old gave new : Option (List Given)) (text piece : List ℕ) (place : ℕ) (before : IsSoFar held old gave text place)
     (read : new ≡ one_more gave (read_of journal_name place 65536 piece))
     (given : IfSome held (λ objects. piece ≡ part_of (bytes_of objects journal_name) place 65536)) where
-
   -- after the read that gave nothing
   module _ (none : piece ≡ []) (result : Result (Profile × Vec Entry Global) JournalFault) (end : IsEnd result text) where
     pub end_told : IfSome held (λ objects. IsAnswer result (bytes_of objects journal_name))

@@ -28,10 +28,11 @@ Begins-shorter e n bytes later begins le =
 
 -- where as many bytes as the longest text has begin with none, none will begin them
 pub none_will_begin : (bytes : List ℕ) → NoneBegins bytes → longest_entry ≤ length bytes → NoneWillBegin bytes
-none_will_begin bytes none long =
-    (λ is. absurd (omega (arith, ap length is)),
-     λ later e n begins.
-         none e n (Begins-shorter e n bytes later begins (omega (arith, Begins-length e n (bytes ++ later) begins, (length-entry e begins.valid).1))))
+none_will_begin bytes none long = (
+  λ is. absurd (omega (arith, ap length is)),
+  λ later e n begins.
+      none e n (Begins-shorter e n bytes later begins (omega (arith, Begins-length e n (bytes ++ later) begins, (length-entry e begins.valid).1))),
+)
 
 pub AllByRecursion-append : {A : Type 0} (P : A → Type 0) (xs ys : List A) → AllByRecursion P xs → AllByRecursion P ys → AllByRecursion P (xs ++ ys)
 AllByRecursion-append P [] ys left right = right

@@ -16,11 +16,7 @@ use std::alloc::Global;
 
 /// Adds the texts of these entries to the journal, by one call; where there are none, by no call. After an `Err`
 /// a front of their texts may stand behind the old bytes, perhaps none of them.
-pub fn append<S: Shelf>(
-    alloc: Global,
-    shelf: &mut S,
-    entries: &[Entry],
-) -> Result<(), AppendFault>
+pub fn append<S: Shelf>(alloc: Global, shelf: &mut S, entries: &[Entry]) -> Result<(), AppendFault>
     requires { All IsWithinBounds entries.now }
     ensures held { MatchResult result
         (λ _. S.held shelf.new ≡ with_entries (S.held shelf.old) entries.now)

@@ -6,12 +6,14 @@ mod creating;
 mod fault;
 mod found;
 mod header;
+mod laws;
 mod reading;
 mod scan;
 
 pub use appending::append;
 pub use creating::create;
 pub use fault::{AppendFault, CreateFault, JournalFault};
+pub use laws::one_answer;
 pub use reading::read;
 
 #[cfg(test)]

@@ -20,10 +20,7 @@ const PIECE: usize = 65_536;
 /// `NotStore` comes exactly where there is no journal, or its first 8 bytes are no header. `BadEntry(at)` comes
 /// exactly where the bytes from the place `at` on do not begin with the text of an entry, or with that of one that
 /// would be past 2^20 entries or past a weight of 2^24; `at` is the first such place.
-pub fn read<S: Shelf>(
-    alloc: Global,
-    shelf: &mut S,
-) -> Result<(Profile, Vec<Entry>), JournalFault>
+pub fn read<S: Shelf>(alloc: Global, shelf: &mut S) -> Result<(Profile, Vec<Entry>), JournalFault>
     ensures told { IfSome (S.held shelf.old) (λ objects. IsAnswer result (bytes_of objects journal_name)) }
     ensures gave { HasRead (S.gave shelf.old) (S.gave shelf.new) result }
 

@@ -63,7 +63,7 @@ loop-scan-preserved g c =
     let place : c.loop-scan.place + c.len.result ≡ c.loop-scan.place + length c.in_ok-piece.piece.items = grind (arith, common_steps) in (
       c.in_ok-add.ensures.front,
       more_so_far (g.S.Shelf.held c.args.shelf.now) (g.S.Shelf.gave c.args.shelf.now) (g.S.Shelf.gave c.loop-scan.shelf) (g.S.Shelf.gave c.read.new.self) (scan_text c.loop-scan.scan) c.in_ok-piece.piece.items c.loop-scan.place
-      c.loop-scan.invariant.1 c.in_ok-piece.ensures.gave given (scan_text c.add.new.self) (c.loop-scan.place + c.len.result) some text place,
+          c.loop-scan.invariant.1 c.in_ok-piece.ensures.gave given (scan_text c.add.new.self) (c.loop-scan.place + c.len.result) some text place,
       cc,
       cc,
       cc,
