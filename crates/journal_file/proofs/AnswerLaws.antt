@@ -1,5 +1,5 @@
 -- Bytes are one journal, or no store, or bad at one place.
-use Rattle.std.proofs.Common.{◌≡◌, ◌≢◌, ℕ, ◌+◌, ◌<◌, ◌≤◌, List, [], ◌∷◌, ◌++◌, length, take, drop, refl, sym, ap, subst, ◌∙◌, append_assoc, arith}
+use Rattle.std.proofs.Common.{◌≡◌, ℕ, List, [], ◌∷◌, ◌++◌, length, take, refl, sym, ap, subst, ◌∙◌, append_assoc, arith}
 use Rattle.std.specs.List.{AllByRecursion}
 use Rattle.std.proofs.lemmas.List.{length-append, append-nil, take_at}
 use Rattle.std.proofs.lemmas.List.Sums.{sum_by-append}
@@ -9,7 +9,7 @@ use Rattle.history.specs.declared.entry.Entry.{Entry}
 use Rattle.history.specs.Bounds.{IsEntry, Begins}
 use Rattle.history.specs.EntryText.{entry_text, entries_text}
 use Rattle.journal_file.specs.Header.{header_text}
-use Rattle.journal_file.specs.Journal.{entry_weight, weight, FitsJournal, IsJournal, HasNoHeader, IsBadAt}
+use Rattle.journal_file.specs.Journal.{entry_weight, FitsJournal, IsJournal, HasNoHeader, IsBadAt}
 use Rattle.journal_file.proofs.FrontLaws.{same_body, same_header, same_profile, length-header}
 
 -- a front of entries that fit a journal fits it

@@ -1,5 +1,5 @@
 -- A journal that comes in pieces.
-use Rattle.std.proofs.Common.{◌≡◌, ◌≢◌, ℕ, ◌+◌, ◌<◌, ◌≤◌, List, [], ◌∷◌, ◌++◌, length, get_or, take, drop, refl, sym, ap, subst, ◌∙◌, append_assoc, arith, Option, Some, None}
+use Rattle.std.proofs.Common.{◌≡◌, ◌≢◌, ℕ, ◌≤◌, List, [], ◌∷◌, ◌++◌, length, get_or, take, drop, refl, sym, ap, ◌∙◌, append_assoc, arith, Option, Some, None}
 use Rattle.std.proofs.lemmas.List.{length-append, take-append-le, take-append-drop, take_at, drop_at}
 use Rattle.ss_base.specs.declared.profile.Profile.{Profile}
 use Rattle.ss_base.specs.declared.profile.Profile.TheVariants.{Tiny, Small, Large}
@@ -8,8 +8,8 @@ use Rattle.history.specs.EntryText.{entries_text}
 use Rattle.journal_file.specs.declared.fault.JournalFault.{JournalFault}
 use Rattle.journal_file.specs.declared.fault.JournalFault.TheVariants.{Shelf, NotStore, BadEntry, Memory}
 use Rattle.journal_file.specs.Header.{header_text}
-use Rattle.journal_file.specs.Journal.{journal_text, HasNoHeader, IsBadAt}
-use Rattle.journal_file.specs.Scan.{IsBadBody, IsBodyFault, IsBytesFault, head_text, scanned_text, IsPending}
+use Rattle.journal_file.specs.Journal.{journal_text, HasNoHeader}
+use Rattle.journal_file.specs.Scan.{IsBodyFault, IsBytesFault, head_text, scanned_text, IsPending}
 
 pub length-header : (profile : Profile) → length (header_text profile) ≡ 8
 length-header Tiny = refl

@@ -1,21 +1,17 @@
 -- How long the text of an entry is.
-use Rattle.std.proofs.Common.{◌≡◌, ℕ, ◌+◌, ◌*◌, ◌^◌, ◌<◌, ◌≤◌, List, [], ◌∷◌, ◌++◌, length, Option, Some, None, refl, arith}
-use Rattle.std.specs.Prelude.{IfSome}
+use Rattle.std.proofs.Common.{◌≡◌, ℕ, ◌*◌, ◌≤◌, List, [], ◌∷◌, length, Option, Some, None, refl, arith}
 use Rattle.std.specs.List.{flat_map, AllByRecursion}
 use Rattle.std.specs.Int.{w16, w32, w64}
 use Rattle.std.proofs.lemmas.List.{length-append}
-use Rattle.ss_base.specs.StreamName.{IsStreamName}
 use Rattle.ss_base.specs.declared.ids.ContainerId.{ContainerId}
 use Rattle.ss_base.specs.declared.ids.ManifestId.{ManifestId}
-use Rattle.ss_base.specs.declared.name.Name.{Name}
 use Rattle.ss_base.specs.declared.object.Object.{Object}
 use Rattle.ss_base.specs.declared.object.Object.TheVariants.{Container, Manifest}
 use Rattle.history.specs.declared.entry.Entry.{Entry}
 use Rattle.history.specs.declared.entry.Seen.{Seen}
-use Rattle.history.specs.declared.entry.Totals.{Totals}
 use Rattle.history.specs.declared.entry.Point.{Point}
 use Rattle.history.specs.declared.entry.Point.TheVariants.{Begin, Choose, Commit, Finish, Abort, Delete, Look, Done, Reclaim, Stat}
-use Rattle.history.specs.EntryText.{number_text, digest_text, stream_name_text, manifest_text, container_text, object_text, reply_text, list_text, seen_text, totals_text, point_text, entry_text, entries_text}
+use Rattle.history.specs.EntryText.{number_text, digest_text, manifest_text, container_text, object_text, reply_text, seen_text, point_text, entry_text, entries_text}
 use Rattle.history.specs.Bounds.{IsDigest, FitsManifest, FitsContainer, FitsObject, PointFits, PointIsWithinBounds, IsEntry}
 
 length-number16 : (n : ℕ) → length (number_text w16 n) ≡ 2

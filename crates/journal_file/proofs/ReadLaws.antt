@@ -1,10 +1,8 @@
 -- Reads of a journal, one behind the other.
-use Rattle.std.proofs.Common.{◌≡◌, ◌≢◌, ℕ, ◌+◌, ◌*◌, ◌^◌, ◌<◌, ◌≤◌, Bool, true, false, List, [], ◌∷◌, ◌++◌, length, take, drop, refl, sym, ap, subst, ◌∙◌, append_assoc, arith, Option, Some, None, Result, Ok, Err, Vec, inl, inr}
-use Rattle.std.specs.Prelude.{IfSome, IfOk, IfErr, is_some, unwrap_or}
-use Rattle.std.specs.Option.{option_map}
+use Rattle.std.proofs.Common.{◌≡◌, ◌≢◌, ℕ, ◌+◌, ◌^◌, ◌<◌, ◌≤◌, List, [], ◌∷◌, ◌++◌, length, drop, refl, sym, ap, subst, ◌∙◌, append_assoc, arith, Option, Some, None, Result, Ok, Err, Vec, inl, inr}
+use Rattle.std.specs.Prelude.{IfSome, IfOk, IfErr}
 use Rattle.std.specs.List.{AllByRecursion}
 use Rattle.std.specs.declared.alloc.Global.{Global}
-use Rattle.std.specs.FinMap as map
 use Rattle.std.proofs.lemmas.List.{length-append, append-nil}
 use Rattle.std.proofs.lemmas.Grind.{flat_map-append}
 use Rattle.ss_base.specs.declared.profile.Profile.{Profile}
@@ -15,13 +13,10 @@ use Rattle.outside.proofs.ShelfLaws.{part_of-rest, part_of-end}
 use Rattle.journal_file.specs.declared.fault.JournalFault.{JournalFault}
 use Rattle.journal_file.specs.declared.fault.JournalFault.TheVariants.{Shelf, NotStore, BadEntry, Memory}
 use Rattle.journal_file.specs.declared.scan.Scan.{Scan}
-use Rattle.outside.specs.declared.trouble.Trouble.{Trouble}
-use Rattle.outside.specs.declared.trouble.Trouble.TheVariants as trouble
-use Rattle.journal_file.specs.Cause.{journal_fault}
-use Rattle.journal_file.specs.Header.{journal_name, header_text}
-use Rattle.journal_file.specs.Journal.{IsJournal, HasNoHeader}
+use Rattle.journal_file.specs.Header.{journal_name}
+use Rattle.journal_file.specs.Journal.{IsJournal}
 use Rattle.journal_file.specs.Answer.{IsRefusedBy, IsAnswer, reads_from, joined, with_reads, AreParts, ReadToEnd, EndsWith, HasRead}
-use Rattle.journal_file.specs.Scan.{IsBytesFault, IsPending, scanned_text, head_text}
+use Rattle.journal_file.specs.Scan.{IsBytesFault, IsPending, head_text}
 use Rattle.journal_file.specs.Front.{IsFront, scan_text}
 use Rattle.journal_file.proofs.Lengths.{length-entries}
 use Rattle.journal_file.proofs.FrontLaws.{length-header}
@@ -81,21 +76,6 @@ AllByRecursion-snoc P (y ∷ ys) x all here = (all.0, AllByRecursion-snoc P ys x
 
 joined-more : (pieces : List (List ℕ)) (piece : List ℕ) → joined (pieces ++ piece ∷ []) ≡ joined pieces ++ piece
 joined-more pieces piece = flat_map-append (λ (p : List ℕ). p) pieces (piece ∷ []) ∙ ap (λ (l : List ℕ). joined pieces ++ l) (append-nil piece)
-
--- before the first read
-pub none_so_far : (held : Option Objects) (gave : Option (List Given)) → IsSoFar held gave gave [] 0
-none_so_far held gave = record {
-  pieces = [];
-  gave = with_reads-none gave;
-  parts = tt;
-  joined_is = refl;
-  place_is = refl;
-  told = told held;
-}
-  where
-    told : (held : Option Objects) → IfSome held (λ objects. bytes_of objects journal_name ≡ [] ++ drop 0 (bytes_of objects journal_name))
-    told None = tt
-    told (Some objects) = refl
 
 -- what an exclusive shelf has behind one more piece
 told_more : (held : Option Objects) (text piece : List ℕ) (place : ℕ)
@@ -199,43 +179,6 @@ module _ (held : Option Objects) (old gave new : Option (List Given)) (text piec
               subst (λ (t : List ℕ). IsRefusedBy fault t) (append-nil (text ++ piece) ∙ sym (joined_now held old gave new text piece place before read given))
               (refused_by fault ((text ++ piece) ++ []) (bad []));
         }
-
--- a failing shelf is a cause whatever the bytes are
-no_cause : (trouble : Trouble) (bytes : List ℕ) → IsRefusedBy (journal_fault trouble) bytes
-no_cause trouble.Fault bytes = tt
-no_cause trouble.Memory bytes = tt
-
-pub failed_told : (held : Option Objects) (trouble : Trouble) → IfSome held (λ objects. IsRefusedBy (journal_fault trouble) (bytes_of objects journal_name))
-failed_told None trouble = tt
-failed_told (Some objects) trouble = no_cause trouble (bytes_of objects journal_name)
-
-pub failed_gave : (held : Option Objects) (old new after : Option (List Given)) (text : List ℕ) (place : ℕ) (trouble : Trouble) → IsSoFar held old new text place → after ≡ new → HasRead old after (Err (journal_fault trouble))
-failed_gave held old new after text place trouble so_far same = record {
-  pieces = so_far.pieces;
-  gave = same ∙ so_far.gave;
-  end = inl so_far.parts;
-  answer = no_cause trouble (joined so_far.pieces);
-}
-
-no_header : (bytes : List ℕ) → bytes ≡ [] → HasNoHeader bytes
-no_header bytes none profile rest is = cc
-
--- there is no journal
-pub absent_told : (held : Option Objects) → IfSome held (λ objects. false ≡ map.contains_key objects journal_name) → IfSome held (λ objects. HasNoHeader (bytes_of objects journal_name))
-absent_told None absent = tt
-absent_told (Some objects) absent = no_header (bytes_of objects journal_name) (by_answer (map.get objects journal_name) (sym absent))
-  where
-    by_answer : (o : Option (List ℕ)) → is_some o ≡ false → unwrap_or o [] ≡ []
-    by_answer None none = refl
-    by_answer (Some bytes) none = (cc)
-
-pub absent_gave : (old new : Option (List Given)) → new ≡ old → HasRead old new (Err NotStore)
-absent_gave old new same = record {
-  pieces = [];
-  gave = same ∙ with_reads-none old;
-  end = inl tt;
-  answer = no_header [] refl;
-}
 
 -- what bytes are refused for is no failure of the shelf
 pub not_shelf : (fault : JournalFault) (bytes : List ℕ) → IsBytesFault fault bytes → fault ≢ Shelf

@@ -1,18 +1,15 @@
 -- Reading entries off the front of bytes.
-use Rattle.std.proofs.Common.{◌≡◌, ◌≢◌, ℕ, ◌+◌, ◌<◌, ◌≤◌, List, [], ◌∷◌, ◌++◌, length, take, drop, refl, sym, ap, subst, ◌∙◌, append_assoc, arith}
-use Rattle.std.specs.List.{AllByRecursion}
-use Rattle.std.proofs.lemmas.List.{length-append, length-take-le, take-append-le, take-append-drop, append-nil}
-use Rattle.std.proofs.lemmas.List.Sums.{sum_by-append}
-use Rattle.std.proofs.lemmas.Grind.{flat_map-append}
+use Rattle.std.proofs.Common.{◌≡◌, ◌≢◌, ℕ, ◌≤◌, List, [], ◌∷◌, ◌++◌, length, drop, sym, ap, subst, ◌∙◌, append_assoc, arith}
+use Rattle.std.proofs.lemmas.List.{length-take-le, take-append-le, take-append-drop}
 use Rattle.history.proofs.Entries.{same_entry}
 use Rattle.history.specs.declared.entry.Entry.{Entry}
-use Rattle.history.specs.Bounds.{IsEntry, Begins}
+use Rattle.history.specs.Bounds.{Begins}
 use Rattle.history.specs.EntryText.{entry_text, entries_text}
-use Rattle.journal_file.specs.Journal.{entry_weight, weight, FitsJournal}
-use Rattle.journal_file.specs.Scan.{longest_entry, AreFound, NoneBegins, NoneWillBegin, IsBadFor, IsBadBody, IsBodyFault}
+use Rattle.journal_file.specs.Journal.{FitsJournal}
+use Rattle.journal_file.specs.Scan.{longest_entry, AreFound, NoneBegins, NoneWillBegin, IsBadFor, IsBodyFault}
 use Rattle.journal_file.specs.declared.fault.JournalFault.{JournalFault}
 use Rattle.journal_file.specs.declared.fault.JournalFault.TheVariants.{Shelf, NotStore, BadEntry, Memory}
-use Rattle.journal_file.proofs.Lengths.{length-entry, length-entries}
+use Rattle.journal_file.proofs.Lengths.{length-entry}
 
 pub Begins-length : (e : Entry) (n : ℕ) (bytes : List ℕ) → Begins e n bytes → n ≡ length (entry_text e)
 Begins-length e n bytes begins = omega (arith, ap length begins.text, length-take-le n bytes begins.len)
@@ -34,10 +31,6 @@ none_will_begin bytes none long = (
       none e n (Begins-shorter e n bytes later begins (omega (arith, Begins-length e n (bytes ++ later) begins, (length-entry e begins.valid).1))),
 )
 
-pub AllByRecursion-append : {A : Type 0} (P : A → Type 0) (xs ys : List A) → AllByRecursion P xs → AllByRecursion P ys → AllByRecursion P (xs ++ ys)
-AllByRecursion-append P [] ys left right = right
-AllByRecursion-append P (x ∷ xs) ys left right = (left.0, AllByRecursion-append P xs ys left.1 right)
-
 -- what begins with a text has bytes
 pub Begins-some : (e : Entry) (n : ℕ) (bytes : List ℕ) → Begins e n bytes → bytes ≢ []
 Begins-some e n bytes begins is =
@@ -50,22 +43,6 @@ Begins-only e f n m bytes later first second =
     (same_entry f e (drop m (bytes ++ later)) (drop n bytes ++ later) second.valid first.valid whole).0
 
 module _ (text : List ℕ) (found : List Entry) (sum place : ℕ) (rest : List ℕ) where
-  -- where no entry will begin the rest, it is bad
-  pub none_is_bad : text ≡ entries_text found ++ rest → AreFound found sum place → (fault : JournalFault) → IsBadFor fault place (NoneWillBegin rest) → IsBodyFault fault text
-  none_is_bad is are Shelf for = for
-  none_is_bad is are NotStore for = for
-  none_is_bad is are Memory for = tt
-  none_is_bad is are (BadEntry at) for = record {
-    before = found;
-    rest = rest;
-    text = is;
-    place_is = for.0 ∙ are.place_is;
-    valid = are.valid;
-    fits = are.fits;
-    more = for.1.0;
-    bad = λ later e n begins fits. for.1.1 later e n begins;
-  }
-
   -- where there is no room for the entry that begins the rest, it is bad
   pub full_is_bad : text ≡ entries_text found ++ rest → AreFound found sum place → (entry : Entry) (n : ℕ) → Begins entry n rest → (fault : JournalFault)
       → IsBadFor fault place (FitsJournal (found ++ entry ∷ []) → ⊥) → IsBodyFault fault text

@@ -1,5 +1,5 @@
 -- What is added to a journal (this project's own).
-use Rattle.std.specs.Prelude.{ℕ, List, [], ◌∷◌, Option}
+use Rattle.std.specs.Prelude.{List, [], ◌∷◌, Option}
 use Rattle.outside.specs.Shelf.{Objects, Written, with_added, write_of, one_more}
 use Rattle.history.specs.declared.entry.Entry.{Entry}
 use Rattle.history.specs.EntryText.{entries_text}

@@ -1,5 +1,5 @@
 -- What the bytes of a journal are (this project's own).
-use Rattle.std.specs.Prelude.{◌≡◌, ◌≢◌, ℕ, ◌+◌, ◌^◌, ◌≤◌, List, [], ◌∷◌, ◌++◌, length, sum_by}
+use Rattle.std.specs.Prelude.{◌≡◌, ◌≢◌, ℕ, ◌^◌, ◌≤◌, List, [], ◌∷◌, ◌++◌, length, sum_by}
 use Rattle.std.specs.List.{AllByRecursion}
 use Rattle.ss_base.specs.declared.profile.Profile.{Profile}
 use Rattle.history.specs.declared.entry.Entry.{Entry}
