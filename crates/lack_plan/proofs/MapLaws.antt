@@ -1,9 +1,9 @@
 -- The maps of places, one piece further on.
-use Rattle.std.proofs.Common.{◌≡◌, ◌≢◌, ◌⊎◌, ℕ, Bool, true, false, List, [], ◌∷◌, ◌++◌, length, take, length-append, is_some, Option, Some, None, refl, sym, subst, ap, ◌∙◌, inl, inr, arith, if◌then◌else◌}
+use Rattle.std.proofs.Common.{◌≡◌, ◌≢◌, ℕ, true, false, List, [], ◌∷◌, ◌++◌, length, take, length-append, is_some, Option, Some, None, refl, sym, subst, ap, ◌∙◌, inl, inr, arith}
 use Rattle.std.proofs.lemmas.List.{take_at, take-append-le}
 use Rattle.std.specs.HashMap.{get, HashMap, Updates}
 use Rattle.ss_base.specs.declared.name.Piece.{Piece}
-use Rattle.ss_base.specs.Origins.{LacksPiece, IsFirstPlace, AllLackPiece, IsFirstIn}
+use Rattle.ss_base.specs.Origins.{LacksPiece, IsFirstPlace, IsFirstIn}
 use Rattle.lack_plan.specs.Plan.{piece_eq, HasPlace, IsKnown, IsOrigin, AreOrigins}
 use Rattle.lack_plan.specs.declared.origin.Origin.{Origin}
 use Rattle.lack_plan.specs.Maps.{HasPlaces, KnowsPieces, Joined}

@@ -1,10 +1,10 @@
-use Rattle.std.proofs.Common.{◌≡◌, ◌+◌, ◌<◌, ℕ, Bool, true, false, List, [], ◌∷◌, ◌++◌, length, take, get_or, Some, None, Option, is_some, sym, subst, ap, ◌∙◌, arith, rules}
+use Rattle.std.proofs.Common.{◌≡◌, ◌+◌, ◌<◌, true, false, [], ◌∷◌, ◌++◌, length, take, get_or, None, is_some, sym, subst, arith, rules}
 use Rattle.std.specs.HashMap.{get}
 use Rattle.std.proofs.lemmas.List.{take_more, take_all, length-take}
 use Rattle.ss_base.specs.declared.name.Piece.{Piece}
 use Rattle.lack_plan.specs.Plan.{piece_eq}
 use Rattle.lack_plan.specs.Maps.{Joined}
-use Rattle.lack_plan.proofs.MapLaws.{joins-none, joins-found, joins-push, joins-known, some-of, none-of}
+use Rattle.lack_plan.proofs.MapLaws.{joins-found, joins-push, joins-known, some-of, none-of}
 use Rattle.lack_plan.proofs.known.add_list.Goals as goal
 use Rattle.lack_plan.proofs.known.add_list.Goals.{then-not-contains_key+in_ok-insert, else-not-contains_key}
 

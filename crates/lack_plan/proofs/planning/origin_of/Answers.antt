@@ -1,4 +1,4 @@
-use Rattle.std.proofs.Common.{◌≡◌, List, length, Some, None, sym, subst, ap, ◌∙◌, rules}
+use Rattle.std.proofs.Common.{◌≡◌, Some, None, sym, subst}
 use Rattle.std.specs.HashMap.{get}
 use Rattle.lack_plan.specs.Plan.{piece_eq, IsKnown}
 use Rattle.lack_plan.proofs.MapLaws.{places-found, places-push, lacks-none, first-found}
