@@ -2,3 +2,4 @@ pub mod Names
 pub mod Loop
 pub mod Fields
 pub mod Entries
+mod Scans

@@ -9,6 +9,8 @@ mod item;
 mod items;
 mod laws;
 mod reading;
+mod rules;
+mod session_scan;
 mod writing;
 
 pub use decoding::decode_entry;
@@ -16,6 +18,7 @@ pub use encoding::encode_entry;
 pub use entry::{Entry, Limits, Point, Seen, Totals};
 pub use items::Items;
 pub use laws::one_reading;
+pub use rules::Rules;
 
 #[cfg(test)]
 mod tests;

@@ -1,0 +1,15 @@
+use Rattle.std.proofs.Common.{◌≡◌, take, length, sym, ap, ◌∙◌}
+use Rattle.std.specs.List.{count_by}
+use Rattle.std.proofs.lemmas.List.{take_all}
+use Rattle.history.specs.declared.entry.Entry.{Entry}
+use Rattle.history.specs.Sessions.{looks_some, reading_count}
+use Rattle.history.proofs.Scans.{count_by-reverse}
+use Rattle.history.proofs.session_scan.reading_count.Goals as goal
+
+pub returns : goal.returns
+unfolding reading_count
+returns c =
+    let test = λ (entry : Entry). looks_some entry.point in
+    c.loop-entry.invariant
+    ∙ ap (count_by test) (take_all c.loop-entry.entry-index c.args.entries.now c.loop-entry-test.false)
+    ∙ sym (count_by-reverse test c.args.entries.now)

@@ -1,0 +1,167 @@
+-- Legal histories (this project's own): which entry is allowed after which.
+use Rattle.std.specs.Prelude.{ℕ, suc, Bool, true, false, ◌==◌, ◌&&◌, ◌||◌, not, nat_lt, nat_le, ◌+◌, List, [], ◌∷◌, length, take, sum_by, count_by, Option, Some, None, option_map, if◌then◌else◌}
+use Rattle.std.specs.List.{list_any, list_all}
+use Rattle.std.specs.Option.{option_eq}
+use Rattle.std.specs.Cmp.Lexicographic.{pointwise}
+use Rattle.ss_base.specs.declared.ids.ContainerId.{ContainerId}
+use Rattle.ss_base.specs.declared.ids.ManifestId.{ManifestId}
+use Rattle.ss_base.specs.declared.name.Name.{Name}
+use Rattle.ss_base.specs.declared.object.Object.{Object}
+use Rattle.ss_base.specs.Champions.{same_manifest}
+use Rattle.hook_sampler.specs.Hooks.{same_name, is_hook}
+use Rattle.history.specs.declared.entry.Entry.{Entry}
+use Rattle.history.specs.declared.entry.Seen.{Seen}
+use Rattle.history.specs.declared.entry.Totals.{Totals}
+use Rattle.history.specs.declared.entry.Limits.{Limits}
+use Rattle.history.specs.declared.rules.Rules.{Rules}
+use Rattle.history.specs.declared.entry.Point.{Point}
+use Rattle.history.specs.declared.entry.Point.TheVariants.{Begin, Choose, Commit, Finish, Abort, Delete, Look, Done, Reclaim, Stat}
+use Rattle.history.specs.Reading.{are_counts}
+use Rattle.history.specs.Sessions.{sessions, session_count, readings, reading_count, is_unfinished, is_reading, is_held, retained, is_begun_by, is_looked_by, commits, commits_of, is_pending, pending_champions, has}
+use Rattle.history.specs.StandingList.{has_name, champions_for}
+use Rattle.history.specs.Need.{same_container, same_object, has_container, erasable}
+use Rattle.history.specs.TotalsOf.{totals}
+
+-- ---- lists
+
+-- whether no name stands twice
+unfoldable pub is_distinct : List Name → Bool
+is_distinct [] = true
+is_distinct (name ∷ names) = not (has_name name names) && is_distinct names
+
+abbrev pub is_container_before : ContainerId → ContainerId → Bool
+is_container_before a b = nat_lt a.session b.session || ((a.session == b.session) && nat_lt a.ordinal b.ordinal)
+
+-- whether the container comes before the first of the containers
+unfoldable pub is_before_first : ContainerId → List ContainerId → Bool
+is_before_first id [] = true
+is_before_first id (other ∷ ids) = is_container_before id other
+
+-- whether the containers are ascending, and so distinct
+unfoldable pub is_ascending : List ContainerId → Bool
+is_ascending [] = true
+is_ascending (id ∷ ids) = is_before_first id ids && is_ascending ids
+
+abbrev pub same_seen : Seen → Seen → Bool
+same_seen a b = (a.reader == b.reader) && (a.session == b.session)
+
+abbrev pub same_totals : Totals → Totals → Bool
+same_totals a b =
+    (a.streams == b.streams)
+    && ((a.bytes == b.bytes)
+    && ((a.fresh == b.fresh)
+    && ((a.containers == b.containers)
+    && ((a.reclaimed == b.reclaimed) && (a.entries == b.entries)))))
+
+-- ---- what each kind of entry must record
+
+-- whether the session is unfinished and was begun by the author
+unfoldable pub is_open_to : ℕ → ℕ → List Entry → Bool
+is_open_to author session past = is_unfinished session past && is_begun_by author session past
+
+-- the reply of a Begin: none where the name is held, else the next session
+unfoldable pub reply_to_begin : List ℕ → List Entry → Option ℕ
+reply_to_begin name past = if is_held name past then None else Some (session_count past)
+
+-- the reply of a Look: none where no stream is retained under the name, else the next reader and the stream's session
+unfoldable pub reply_to_look : List ℕ → List Entry → Option Seen
+reply_to_look name past = option_map (λ session. record { reader = reading_count past; session = session }) (retained name past)
+
+-- distinct hooks, at most 4,096, each with so many zero bits
+unfoldable pub are_hooks : ℕ → List Name → Bool
+are_hooks bits hooks = is_distinct hooks && (nat_le (length hooks) 4096 && list_all (is_hook bits) hooks)
+
+-- whether an entry commits the manifest with chunks in the container
+unfoldable pub lists_use : ManifestId → ContainerId → Point → Bool
+lists_use id container (Commit manifest content text chunks bytes fresh fresh_bytes uses) = same_manifest id manifest && has_container container uses
+lists_use id container _ = false
+
+-- a container of the session's own with an ordinal below 2^32 - 1, or a use of one of the champions
+unfoldable pub is_use : ℕ → List ManifestId → List Entry → ContainerId → Bool
+is_use session champions past id =
+    ((id.session == session) && nat_lt id.ordinal 4294967295)
+    || list_any (λ champion. has (lists_use champion id) past) champions
+
+-- ascending, at most 4,096, and each is one that the session may use
+unfoldable pub are_uses : ℕ → List Entry → List ContainerId → Bool
+are_uses session past uses =
+    is_ascending uses && (nat_le (length uses) 4096 && list_all (is_use session (pending_champions session past) past) uses)
+
+-- whether the session's own containers that an entry commits are below a number
+unfoldable pub is_own_below : ℕ → ℕ → Point → Bool
+is_own_below session n (Commit manifest content text chunks bytes fresh fresh_bytes uses) =
+    not (manifest.session == session) || list_all (λ (id : ContainerId). not (id.session == session) || nat_lt id.ordinal n) uses
+is_own_below session n _ = true
+
+-- whether a number is above each own ordinal that the session used
+unfoldable pub is_above_own : ℕ → ℕ → List Entry → Bool
+is_above_own session n past = list_all (λ (entry : Entry). is_own_below session n entry.point) past
+
+-- the session's commits, or, where a choice is pending, that number or one more
+unfoldable pub are_texts : ℕ → ℕ → List Entry → Bool
+are_texts session texts past =
+    (texts == commits_of session past) || (is_pending session past && (texts == suc (commits_of session past)))
+
+-- ---- what is allowed at each point, after the entries of past
+
+unfoldable pub is_allowed : Rules → List Entry → ℕ → Point → Bool
+is_allowed rules past author (Begin name session) = option_eq (λ a b. a == b) session (reply_to_begin name past)
+is_allowed rules past author (Choose session hooks champions) =
+    is_open_to author session past
+    && (not (is_pending session past)
+    && (are_hooks rules.bits hooks
+    && pointwise same_manifest champions (champions_for rules.champions rules.standings hooks past)))
+is_allowed rules past author (Commit manifest content text chunks bytes fresh fresh_bytes uses) =
+    is_open_to author manifest.session past
+    && (is_pending manifest.session past
+    && ((manifest.seq == commits_of manifest.session past)
+    && (are_counts chunks bytes fresh fresh_bytes
+    && are_uses manifest.session past uses)))
+is_allowed rules past author (Finish session containers) =
+    is_open_to author session past
+    && (not (is_pending session past)
+    && is_above_own session containers past)
+is_allowed rules past author (Abort session containers texts) =
+    is_open_to author session past
+    && (is_above_own session containers past
+    && are_texts session texts past)
+is_allowed rules past author (Delete name session) = option_eq (λ a b. a == b) session (retained name past)
+is_allowed rules past author (Look name seen) = option_eq same_seen seen (reply_to_look name past)
+is_allowed rules past author (Done reader) = is_reading reader past && is_looked_by author reader past
+is_allowed rules past author (Reclaim objects) = pointwise same_object objects (take 16 (erasable past))
+is_allowed rules past author (Stat given) = same_totals given (totals past)
+
+-- ---- limits
+
+unfoldable pub unfinished_sessions : List Entry → ℕ
+unfinished_sessions past = count_by (λ session. is_unfinished session past) (sessions past)
+
+unfoldable pub unfinished_readings : List Entry → ℕ
+unfinished_readings past = count_by (λ (seen : Seen). is_reading seen.reader past) (readings past)
+
+-- how many names of hooks and containers an entry lists
+unfoldable pub point_weight : Point → ℕ
+point_weight (Choose session hooks champions) = length hooks
+point_weight (Commit manifest content text chunks bytes fresh fresh_bytes uses) = length uses
+point_weight _ = 0
+
+-- the names of hooks and containers that the entries list
+unfoldable pub weight : List Entry → ℕ
+weight past = sum_by (λ (entry : Entry). point_weight entry.point) past
+
+-- whether the entries fit the limits, with room for an entry that ends each unfinished session and reading
+unfoldable pub is_within : Limits → List Entry → Bool
+is_within limits past =
+    nat_le (length past + unfinished_sessions past + unfinished_readings past) limits.entries
+    && nat_le (weight past) limits.weight
+
+-- ---- legal histories
+
+-- whether an entry may follow
+unfoldable pub may_follow : Rules → Entry → List Entry → Bool
+may_follow rules entry past = is_allowed rules past entry.author entry.point && is_within rules.limits (entry ∷ past)
+
+-- each entry is allowed after those before it, and with it the entries fit the limits
+unfoldable pub is_legal : Rules → List Entry → Bool
+is_legal rules [] = true
+is_legal rules (entry ∷ past) = is_legal rules past && may_follow rules entry past

@@ -1,0 +1,35 @@
+-- The totals of a history (this project's own).
+use Rattle.std.specs.Prelude.{ℕ, List, length, sum_by, count_by, if◌then◌else◌}
+use Rattle.history.specs.declared.entry.Entry.{Entry}
+use Rattle.history.specs.declared.entry.Totals.{Totals}
+use Rattle.history.specs.declared.entry.Point.{Point}
+use Rattle.history.specs.declared.entry.Point.TheVariants.{Begin, Choose, Commit, Finish, Abort, Delete, Look, Done, Reclaim, Stat}
+use Rattle.history.specs.Sessions.{sessions, is_retained}
+use Rattle.history.specs.Need.{containers_closed}
+
+-- the bytes of a commit, where its stream is retained
+unfoldable pub bytes_retained : List Entry → Point → ℕ
+bytes_retained past (Commit manifest content text chunks bytes fresh fresh_bytes uses) = if is_retained manifest.session past then bytes else 0
+bytes_retained past _ = 0
+
+-- the bytes that a commit stored anew
+unfoldable pub bytes_stored : Point → ℕ
+bytes_stored (Commit manifest content text chunks bytes fresh fresh_bytes uses) = fresh_bytes
+bytes_stored _ = 0
+
+-- how many objects an entry gives over to be removed
+unfoldable pub objects_named : Point → ℕ
+objects_named (Reclaim objects) = length objects
+objects_named _ = 0
+
+-- streams: those retained; bytes: over the commits of retained streams; fresh: over all commits; containers: over all
+-- Finish and Abort entries; reclaimed: over all Reclaim entries
+unfoldable pub totals : List Entry → Totals
+totals past = record {
+  streams = count_by (λ session. is_retained session past) (sessions past);
+  bytes = sum_by (λ (entry : Entry). bytes_retained past entry.point) past;
+  fresh = sum_by (λ (entry : Entry). bytes_stored entry.point) past;
+  containers = sum_by (λ (entry : Entry). containers_closed entry.point) past;
+  reclaimed = sum_by (λ (entry : Entry). objects_named entry.point) past;
+  entries = length past;
+}

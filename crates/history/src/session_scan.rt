@@ -1,0 +1,385 @@
+// Sessions and readers of a history, by scanning its entries from the newest one backwards.
+ghost use Rattle.std.specs.Prelude.{◌≡◌, reverse, option_map, option_copied};
+ghost use Rattle.history.specs.Sessions.{is_number, session_begun, session_under, begins_some, session_count, begins, chooses, commits, finishes, aborts, deletes, closes, has, newest, is_unfinished, is_closed, is_retained, retained, is_held, is_begun_by, commits_of, hooks_chosen, champions_chosen, last_hooks, settles, pending, is_pending, pending_champions, reading_begun, looks_some, reading_count, looks, ends, is_reading, is_looked_by};
+
+use crate::{Entry, Point, Seen};
+use ss_base::{ManifestId, Name, StreamName};
+
+pub(crate) fn is_number(n: u32, number: Option<u32>) -> bool
+    ensures { result ≡ is_number n number }
+{
+    match number {
+        None => false,
+        Some(m) => n == m,
+    }
+}
+
+#[tactic(auto, unfolding(crate::specs::Sessions::session_begun))]
+pub(crate) fn session_begun(point: &Point) -> Option<u32>
+    ensures { result ≡ session_begun point.now }
+{
+    match point {
+        Point::Begin { session, .. } => *session,
+        _ => None,
+    }
+}
+
+#[tactic(auto, unfolding(crate::specs::Sessions::session_under))]
+pub(crate) fn session_under(name: &StreamName, point: &Point) -> Option<u32>
+    ensures { result ≡ session_under name.now point.now }
+{
+    match point {
+        Point::Begin {
+            name: other,
+            session,
+        } if name.bytes() == other.bytes() => *session,
+        _ => None,
+    }
+}
+
+#[tactic(auto, unfolding(crate::specs::Sessions::begins))]
+pub(crate) fn begins(session: u32, point: &Point) -> bool
+    ensures { result ≡ begins session point.now }
+{
+    is_number(session, session_begun(point))
+}
+
+#[tactic(auto, unfolding(crate::specs::Sessions::chooses))]
+pub(crate) fn chooses(session: u32, point: &Point) -> bool
+    ensures { result ≡ chooses session point.now }
+{
+    match point {
+        Point::Choose { session: other, .. } => session == *other,
+        _ => false,
+    }
+}
+
+#[tactic(auto, unfolding(crate::specs::Sessions::commits))]
+pub(crate) fn commits(session: u32, point: &Point) -> bool
+    ensures { result ≡ commits session point.now }
+{
+    match point {
+        Point::Commit { manifest, .. } => session == manifest.session,
+        _ => false,
+    }
+}
+
+#[tactic(auto, unfolding(crate::specs::Sessions::finishes))]
+pub(crate) fn finishes(session: u32, point: &Point) -> bool
+    ensures { result ≡ finishes session point.now }
+{
+    match point {
+        Point::Finish { session: other, .. } => session == *other,
+        _ => false,
+    }
+}
+
+#[tactic(auto, unfolding(crate::specs::Sessions::aborts))]
+pub(crate) fn aborts(session: u32, point: &Point) -> bool
+    ensures { result ≡ aborts session point.now }
+{
+    match point {
+        Point::Abort { session: other, .. } => session == *other,
+        _ => false,
+    }
+}
+
+#[tactic(auto, unfolding(crate::specs::Sessions::deletes))]
+pub(crate) fn deletes(session: u32, point: &Point) -> bool
+    ensures { result ≡ deletes session point.now }
+{
+    match point {
+        Point::Delete { session: other, .. } => is_number(session, *other),
+        _ => false,
+    }
+}
+
+#[tactic(auto, unfolding(crate::specs::Sessions::closes))]
+pub(crate) fn closes(session: u32, point: &Point) -> bool
+    ensures { result ≡ closes session point.now }
+{
+    finishes(session, point) || aborts(session, point)
+}
+
+#[tactic(auto, unfolding(crate::specs::Sessions::has))]
+fn has_begun(session: u32, entries: &[Entry]) -> bool
+    ensures { result ≡ has (begins session) (reverse entries.now) }
+{
+    entries.iter().rev().any(|e| begins(session, &e.point))
+}
+
+#[tactic(auto, unfolding(crate::specs::Sessions::has, crate::specs::Sessions::is_closed))]
+pub(crate) fn is_closed(session: u32, entries: &[Entry]) -> bool
+    ensures { result ≡ is_closed session (reverse entries.now) }
+{
+    entries.iter().rev().any(|e| closes(session, &e.point))
+}
+
+#[tactic(auto, unfolding(crate::specs::Sessions::has))]
+fn has_finished(session: u32, entries: &[Entry]) -> bool
+    ensures { result ≡ has (finishes session) (reverse entries.now) }
+{
+    entries.iter().rev().any(|e| finishes(session, &e.point))
+}
+
+#[tactic(auto, unfolding(crate::specs::Sessions::has))]
+fn is_deleted(session: u32, entries: &[Entry]) -> bool
+    ensures { result ≡ has (deletes session) (reverse entries.now) }
+{
+    entries.iter().rev().any(|e| deletes(session, &e.point))
+}
+
+#[tactic(auto, unfolding(crate::specs::Sessions::is_unfinished, crate::specs::Sessions::is_closed))]
+pub(crate) fn is_unfinished(session: u32, entries: &[Entry]) -> bool
+    ensures { result ≡ is_unfinished session (reverse entries.now) }
+{
+    has_begun(session, entries) && !is_closed(session, entries)
+}
+
+#[tactic(auto, unfolding(crate::specs::Sessions::is_retained))]
+pub(crate) fn is_retained(session: u32, entries: &[Entry]) -> bool
+    ensures { result ≡ is_retained session (reverse entries.now) }
+{
+    has_finished(session, entries) && !is_deleted(session, entries)
+}
+
+#[tactic(auto, unfolding(crate::specs::Sessions::retained, crate::specs::Sessions::sessions_under))]
+pub(crate) fn retained(name: &StreamName, entries: &[Entry]) -> Option<u32>
+    ensures { result ≡ retained name.now (reverse entries.now) }
+{
+    entries
+        .iter()
+        .rev()
+        .filter_map(|e| session_under(name, &e.point))
+        .find(|session| is_retained(*session, entries))
+}
+
+#[tactic(auto, unfolding(crate::specs::Sessions::is_held, crate::specs::Sessions::sessions_under))]
+pub(crate) fn is_held(name: &StreamName, entries: &[Entry]) -> bool
+    ensures { result ≡ is_held name.now (reverse entries.now) }
+{
+    entries
+        .iter()
+        .rev()
+        .filter_map(|e| session_under(name, &e.point))
+        .any(|session| is_unfinished(session, entries) || is_retained(session, entries))
+}
+
+#[tactic(auto, unfolding(crate::specs::Sessions::commits_of))]
+pub(crate) fn commits_of(session: u32, entries: &[Entry]) -> usize
+    ensures { result ≡ commits_of session (reverse entries.now) }
+{
+    entries
+        .iter()
+        .rev()
+        .filter(|e| commits(session, &e.point))
+        .count()
+}
+
+#[tactic(auto, unfolding(crate::specs::Sessions::begins_some))]
+fn begins_some(point: &Point) -> bool
+    ensures { result ≡ begins_some point.now }
+{
+    session_begun(point).is_some()
+}
+
+pub(crate) fn session_count(entries: &[Entry]) -> usize
+    ensures { result ≡ session_count (reverse entries.now) }
+{
+    let mut count = 0;
+    for entry in entries {
+        if begins_some(&entry.point) {
+            count += 1;
+        }
+    }
+    count
+}
+
+#[tactic(auto, unfolding(crate::specs::Sessions::newest))]
+pub(crate) fn begin_of(session: u32, entries: &[Entry]) -> Option<&Entry>
+    ensures { option_copied result ≡ newest (begins session) (reverse entries.now) }
+{
+    entries.iter().rev().find(|e| begins(session, &e.point))
+}
+
+#[tactic(auto, unfolding(crate::specs::Sessions::is_begun_by, crate::specs::Sessions::author_of))]
+pub(crate) fn is_begun_by(author: u32, session: u32, entries: &[Entry]) -> bool
+    ensures { result ≡ is_begun_by author session (reverse entries.now) }
+{
+    match begin_of(session, entries) {
+        Some(entry) => author == entry.author,
+        None => false,
+    }
+}
+
+#[tactic(auto, unfolding(crate::specs::Sessions::hooks_chosen))]
+pub(crate) fn hooks_chosen(point: &Point) -> &[Name]
+    ensures { result.now ≡ hooks_chosen point.now }
+{
+    match point {
+        Point::Choose { hooks, .. } => hooks.as_slice(),
+        _ => &[],
+    }
+}
+
+#[tactic(auto, unfolding(crate::specs::Sessions::champions_chosen))]
+pub(crate) fn champions_chosen(point: &Point) -> Option<&[ManifestId]>
+    ensures { option_map (λ r. r.now) result ≡ champions_chosen point.now }
+{
+    match point {
+        Point::Choose { champions, .. } => Some(champions.as_slice()),
+        _ => None,
+    }
+}
+
+#[tactic(auto, unfolding(crate::specs::Sessions::newest))]
+pub(crate) fn last_choice(session: u32, entries: &[Entry]) -> Option<&Entry>
+    ensures { option_copied result ≡ newest (chooses session) (reverse entries.now) }
+{
+    entries.iter().rev().find(|e| chooses(session, &e.point))
+}
+
+#[tactic(auto, unfolding(crate::specs::Sessions::last_hooks))]
+pub(crate) fn last_hooks(session: u32, entries: &[Entry]) -> &[Name]
+    ensures { result.now ≡ last_hooks session (reverse entries.now) }
+{
+    match last_choice(session, entries) {
+        Some(entry) => hooks_chosen(&entry.point),
+        None => &[],
+    }
+}
+
+#[tactic(auto, unfolding(crate::specs::Sessions::settles))]
+pub(crate) fn settles(session: u32, point: &Point) -> bool
+    ensures { result ≡ settles session point.now }
+{
+    chooses(session, point) || commits(session, point) || aborts(session, point)
+}
+
+#[tactic(auto, unfolding(crate::specs::Sessions::newest))]
+pub(crate) fn last_settling(session: u32, entries: &[Entry]) -> Option<&Entry>
+    ensures { option_copied result ≡ newest (settles session) (reverse entries.now) }
+{
+    entries.iter().rev().find(|e| settles(session, &e.point))
+}
+
+#[tactic(auto, unfolding(crate::specs::Sessions::pending))]
+pub(crate) fn pending(session: u32, entries: &[Entry]) -> Option<&[ManifestId]>
+    ensures { option_map (λ r. r.now) result ≡ pending session (reverse entries.now) }
+{
+    match last_settling(session, entries) {
+        Some(entry) => champions_chosen(&entry.point),
+        None => None,
+    }
+}
+
+#[tactic(auto, unfolding(crate::specs::Sessions::is_pending))]
+pub(crate) fn is_pending(session: u32, entries: &[Entry]) -> bool
+    ensures { result ≡ is_pending session (reverse entries.now) }
+{
+    pending(session, entries).is_some()
+}
+
+#[tactic(auto, unfolding(crate::specs::Sessions::pending_champions))]
+pub(crate) fn pending_champions(session: u32, entries: &[Entry]) -> &[ManifestId]
+    ensures { result.now ≡ pending_champions session (reverse entries.now) }
+{
+    match pending(session, entries) {
+        Some(champions) => champions,
+        None => &[],
+    }
+}
+
+#[tactic(auto, unfolding(crate::specs::Sessions::reading_begun))]
+pub(crate) fn reading_begun(point: &Point) -> Option<Seen>
+    ensures { result ≡ reading_begun point.now }
+{
+    match point {
+        Point::Look { seen, .. } => *seen,
+        _ => None,
+    }
+}
+
+#[tactic(auto, unfolding(crate::specs::Sessions::looks_some))]
+fn looks_some(point: &Point) -> bool
+    ensures { result ≡ looks_some point.now }
+{
+    reading_begun(point).is_some()
+}
+
+pub(crate) fn reading_count(entries: &[Entry]) -> usize
+    ensures { result ≡ reading_count (reverse entries.now) }
+{
+    let mut count = 0;
+    for entry in entries {
+        if looks_some(&entry.point) {
+            count += 1;
+        }
+    }
+    count
+}
+
+#[tactic(auto, unfolding(crate::specs::Sessions::looks))]
+pub(crate) fn looks(reader: u32, point: &Point) -> bool
+    ensures { result ≡ looks reader point.now }
+{
+    match reading_begun(point) {
+        Some(seen) => reader == seen.reader,
+        None => false,
+    }
+}
+
+#[tactic(auto, unfolding(crate::specs::Sessions::ends))]
+pub(crate) fn ends(reader: u32, point: &Point) -> bool
+    ensures { result ≡ ends reader point.now }
+{
+    match point {
+        Point::Done { reader: other } => reader == *other,
+        _ => false,
+    }
+}
+
+#[tactic(auto, unfolding(crate::specs::Sessions::has))]
+fn has_looked(reader: u32, entries: &[Entry]) -> bool
+    ensures { result ≡ has (looks reader) (reverse entries.now) }
+{
+    entries.iter().rev().any(|e| looks(reader, &e.point))
+}
+
+#[tactic(auto, unfolding(crate::specs::Sessions::has))]
+fn has_ended(reader: u32, entries: &[Entry]) -> bool
+    ensures { result ≡ has (ends reader) (reverse entries.now) }
+{
+    entries.iter().rev().any(|e| ends(reader, &e.point))
+}
+
+#[tactic(auto, unfolding(crate::specs::Sessions::is_reading))]
+pub(crate) fn is_reading(reader: u32, entries: &[Entry]) -> bool
+    ensures { result ≡ is_reading reader (reverse entries.now) }
+{
+    has_looked(reader, entries) && !has_ended(reader, entries)
+}
+
+#[tactic(auto, unfolding(crate::specs::Sessions::newest))]
+pub(crate) fn look_of(reader: u32, entries: &[Entry]) -> Option<&Entry>
+    ensures { option_copied result ≡ newest (looks reader) (reverse entries.now) }
+{
+    entries.iter().rev().find(|e| looks(reader, &e.point))
+}
+
+#[tactic(auto, unfolding(crate::specs::Sessions::newest))]
+pub(crate) fn closing(session: u32, entries: &[Entry]) -> Option<&Entry>
+    ensures { option_copied result ≡ newest (closes session) (reverse entries.now) }
+{
+    entries.iter().rev().find(|e| closes(session, &e.point))
+}
+
+#[tactic(auto, unfolding(crate::specs::Sessions::is_looked_by, crate::specs::Sessions::author_of))]
+pub(crate) fn is_looked_by(author: u32, reader: u32, entries: &[Entry]) -> bool
+    ensures { result ≡ is_looked_by author reader (reverse entries.now) }
+{
+    match look_of(reader, entries) {
+        Some(entry) => author == entry.author,
+        None => false,
+    }
+}
