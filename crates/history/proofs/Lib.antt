@@ -3,3 +3,5 @@ pub mod Loop
 pub mod Fields
 pub mod Entries
 mod Scans
+mod Objects
+mod TotalsLaws

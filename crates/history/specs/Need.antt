@@ -25,6 +25,9 @@ same_object _ _ = false
 unfoldable pub has_container : ContainerId → List ContainerId → Bool
 has_container id ids = list_any (same_container id) ids
 
+unfoldable pub has_object : Object → List Object → Bool
+has_object object objects = list_any (same_object object) objects
+
 -- whether a manifest is a champion of a pending choice
 unfoldable pub is_champion : ManifestId → List Entry → Bool
 is_champion id past = list_any (λ session. has_manifest id (pending_champions session past)) (sessions past)
@@ -88,16 +91,22 @@ containers_below session n = map (λ ordinal. Container (record { session = sess
 unfoldable pub manifests_below : ℕ → ℕ → List Object
 manifests_below session n = map (λ seq. Manifest (record { session = session; seq = seq })) (range_with_len 0 n)
 
--- The objects of closed sessions, in the order of objects: the containers, session by session, and then the
--- manifests.
-unfoldable pub known : List Entry → List Object
-known past =
+-- the containers of closed sessions, session by session, and their manifests
+unfoldable pub all_containers : List Entry → List Object
+all_containers past =
     flat_map (λ session. containers_below session (known_containers session past)) (range_with_len 0 (session_count past))
-    ++ flat_map (λ session. manifests_below session (known_manifests session past)) (range_with_len 0 (session_count past))
+
+unfoldable pub all_manifests : List Entry → List Object
+all_manifests past =
+    flat_map (λ session. manifests_below session (known_manifests session past)) (range_with_len 0 (session_count past))
+
+-- the known objects, which are those of closed sessions, in the order of objects
+unfoldable pub known : List Entry → List Object
+known past = all_containers past ++ all_manifests past
 
 -- whether an entry gives the object over to be removed
 unfoldable pub reclaims : Object → Point → Bool
-reclaims object (Reclaim objects) = list_any (same_object object) objects
+reclaims object (Reclaim objects) = has_object object objects
 reclaims object _ = false
 
 -- whether an object is still wanted: a container that is needed, a manifest that is live

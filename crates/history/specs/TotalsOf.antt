@@ -1,11 +1,16 @@
 -- The totals of a history (this project's own).
-use Rattle.std.specs.Prelude.{ℕ, List, length, sum_by, count_by, if◌then◌else◌}
+use Rattle.std.specs.Prelude.{ℕ, Bool, false, List, length, sum_by, count_by, if◌then◌else◌}
+use Rattle.std.specs.Option.{option_map_or}
 use Rattle.history.specs.declared.entry.Entry.{Entry}
 use Rattle.history.specs.declared.entry.Totals.{Totals}
 use Rattle.history.specs.declared.entry.Point.{Point}
 use Rattle.history.specs.declared.entry.Point.TheVariants.{Begin, Choose, Commit, Finish, Abort, Delete, Look, Done, Reclaim, Stat}
-use Rattle.history.specs.Sessions.{sessions, is_retained}
+use Rattle.history.specs.Sessions.{session_begun, is_retained}
 use Rattle.history.specs.Need.{containers_closed}
+
+-- whether an entry began a session whose stream is retained
+unfoldable pub stream_began : List Entry → Point → Bool
+stream_began past point = option_map_or (λ session. is_retained session past) (session_begun point) false
 
 -- the bytes of a commit, where its stream is retained
 unfoldable pub bytes_retained : List Entry → Point → ℕ
@@ -26,7 +31,7 @@ objects_named _ = 0
 -- Finish and Abort entries; reclaimed: over all Reclaim entries
 unfoldable pub totals : List Entry → Totals
 totals past = record {
-  streams = count_by (λ session. is_retained session past) (sessions past);
+  streams = count_by (λ (entry : Entry). stream_began past entry.point) past;
   bytes = sum_by (λ (entry : Entry). bytes_retained past entry.point) past;
   fresh = sum_by (λ (entry : Entry). bytes_stored entry.point) past;
   containers = sum_by (λ (entry : Entry). containers_closed entry.point) past;

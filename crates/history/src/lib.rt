@@ -8,9 +8,11 @@ mod fault;
 mod item;
 mod items;
 mod laws;
+mod need_scan;
 mod reading;
 mod rules;
 mod session_scan;
+mod totals_scan;
 mod writing;
 
 pub use decoding::decode_entry;
@@ -18,7 +20,9 @@ pub use encoding::encode_entry;
 pub use entry::{Entry, Limits, Point, Seen, Totals};
 pub use items::Items;
 pub use laws::one_reading;
+pub use need_scan::erasable;
 pub use rules::Rules;
+pub use totals_scan::totals;
 
 #[cfg(test)]
 mod tests;

@@ -1,5 +1,5 @@
 // Sessions and readers of a history, by scanning its entries from the newest one backwards.
-ghost use Rattle.std.specs.Prelude.{◌≡◌, reverse, option_map, option_copied};
+ghost use Rattle.std.specs.Prelude.{◌≡◌, ◌≤◌, length, reverse, option_map, option_copied};
 ghost use Rattle.history.specs.Sessions.{is_number, session_begun, session_under, begins_some, session_count, begins, chooses, commits, finishes, aborts, deletes, closes, has, newest, is_unfinished, is_closed, is_retained, retained, is_held, is_begun_by, commits_of, hooks_chosen, champions_chosen, last_hooks, settles, pending, is_pending, pending_champions, reading_begun, looks_some, reading_count, looks, ends, is_reading, is_looked_by};
 
 use crate::{Entry, Point, Seen};
@@ -167,7 +167,8 @@ pub(crate) fn is_held(name: &StreamName, entries: &[Entry]) -> bool
 
 #[tactic(auto, unfolding(crate::specs::Sessions::commits_of))]
 pub(crate) fn commits_of(session: u32, entries: &[Entry]) -> usize
-    ensures { result ≡ commits_of session (reverse entries.now) }
+    ensures commits { result ≡ commits_of session (reverse entries.now) }
+    ensures few { result ≤ length entries.now }
 {
     entries
         .iter()
@@ -184,7 +185,8 @@ fn begins_some(point: &Point) -> bool
 }
 
 pub(crate) fn session_count(entries: &[Entry]) -> usize
-    ensures { result ≡ session_count (reverse entries.now) }
+    ensures sessions { result ≡ session_count (reverse entries.now) }
+    ensures few { result ≤ length entries.now }
 {
     let mut count = 0;
     for entry in entries {
@@ -308,7 +310,8 @@ fn looks_some(point: &Point) -> bool
 }
 
 pub(crate) fn reading_count(entries: &[Entry]) -> usize
-    ensures { result ≡ reading_count (reverse entries.now) }
+    ensures readings { result ≡ reading_count (reverse entries.now) }
+    ensures few { result ≤ length entries.now }
 {
     let mut count = 0;
     for entry in entries {

@@ -6,10 +6,10 @@ use Rattle.history.specs.Sessions.{looks_some, reading_count}
 use Rattle.history.proofs.Scans.{count_by-reverse}
 use Rattle.history.proofs.session_scan.reading_count.Goals as goal
 
-pub returns : goal.returns
+pub returns-clause-readings : goal.returns-clause-readings
 unfolding reading_count
-returns c =
+returns-clause-readings c =
     let test = λ (entry : Entry). looks_some entry.point in
-    c.loop-entry.invariant
+    c.loop-entry.invariant.1
     ∙ ap (count_by test) (take_all c.loop-entry.entry-index c.args.entries.now c.loop-entry-test.false)
     ∙ sym (count_by-reverse test c.args.entries.now)

@@ -6,10 +6,10 @@ use Rattle.history.specs.Sessions.{begins_some, session_count}
 use Rattle.history.proofs.Scans.{count_by-reverse}
 use Rattle.history.proofs.session_scan.session_count.Goals as goal
 
-pub returns : goal.returns
+pub returns-clause-sessions : goal.returns-clause-sessions
 unfolding session_count
-returns c =
+returns-clause-sessions c =
     let test = λ (entry : Entry). begins_some entry.point in
-    c.loop-entry.invariant
+    c.loop-entry.invariant.1
     ∙ ap (count_by test) (take_all c.loop-entry.entry-index c.args.entries.now c.loop-entry-test.false)
     ∙ sym (count_by-reverse test c.args.entries.now)

@@ -1,0 +1,8 @@
+use Rattle.std.proofs.Common.{◌≡◌, ◌≤◌, ◌*◌, ◌^◌, take, reverse, filter}
+use Rattle.std.specs.List.{count_by, sum_by}
+use Rattle.history.specs.declared.entry.Entry.{Entry}
+use Rattle.history.specs.Need.{is_erasable, containers_below, manifests_below}
+use Rattle.history.proofs.need_scan.erasable_manifests.Given as goal
+
+abbrev pub invariant-loop-seq : goal.invariant-loop-seq
+invariant-loop-seq l = l.found.items ≡ filter (λ object. is_erasable object (reverse l.entries)) (manifests_below l.session l.seq)
