@@ -5,3 +5,5 @@ pub mod Entries
 mod Scans
 mod Objects
 mod TotalsLaws
+mod Rounds
+mod LegalLaws

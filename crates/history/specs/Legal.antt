@@ -1,7 +1,7 @@
 -- Legal histories (this project's own): which entry is allowed after which.
 use Rattle.std.specs.Prelude.{ℕ, suc, Bool, true, false, ◌==◌, ◌&&◌, ◌||◌, not, nat_lt, nat_le, ◌+◌, List, [], ◌∷◌, length, take, sum_by, count_by, Option, Some, None, option_map, if◌then◌else◌}
 use Rattle.std.specs.List.{list_any, list_all}
-use Rattle.std.specs.Option.{option_eq}
+use Rattle.std.specs.Option.{option_eq, option_map_or}
 use Rattle.std.specs.Cmp.Lexicographic.{pointwise}
 use Rattle.ss_base.specs.declared.ids.ContainerId.{ContainerId}
 use Rattle.ss_base.specs.declared.ids.ManifestId.{ManifestId}
@@ -17,7 +17,7 @@ use Rattle.history.specs.declared.rules.Rules.{Rules}
 use Rattle.history.specs.declared.entry.Point.{Point}
 use Rattle.history.specs.declared.entry.Point.TheVariants.{Begin, Choose, Commit, Finish, Abort, Delete, Look, Done, Reclaim, Stat}
 use Rattle.history.specs.Reading.{are_counts}
-use Rattle.history.specs.Sessions.{sessions, session_count, readings, reading_count, is_unfinished, is_reading, is_held, retained, is_begun_by, is_looked_by, commits, commits_of, is_pending, pending_champions, has}
+use Rattle.history.specs.Sessions.{session_begun, session_count, reading_begun, reading_count, is_unfinished, is_reading, is_held, retained, is_begun_by, is_looked_by, commits, commits_of, is_pending, pending_champions, has}
 use Rattle.history.specs.StandingList.{has_name, champions_for}
 use Rattle.history.specs.Need.{same_container, same_object, has_container, erasable}
 use Rattle.history.specs.TotalsOf.{totals}
@@ -133,11 +133,18 @@ is_allowed rules past author (Stat given) = same_totals given (totals past)
 
 -- ---- limits
 
+-- whether an entry began a session, or a reading, that is unfinished
+unfoldable pub begins_unfinished : List Entry → Point → Bool
+begins_unfinished past point = option_map_or (λ session. is_unfinished session past) (session_begun point) false
+
+unfoldable pub looks_unfinished : List Entry → Point → Bool
+looks_unfinished past point = option_map_or (λ (seen : Seen). is_reading seen.reader past) (reading_begun point) false
+
 unfoldable pub unfinished_sessions : List Entry → ℕ
-unfinished_sessions past = count_by (λ session. is_unfinished session past) (sessions past)
+unfinished_sessions past = count_by (λ (entry : Entry). begins_unfinished past entry.point) past
 
 unfoldable pub unfinished_readings : List Entry → ℕ
-unfinished_readings past = count_by (λ (seen : Seen). is_reading seen.reader past) (readings past)
+unfinished_readings past = count_by (λ (entry : Entry). looks_unfinished past entry.point) past
 
 -- how many names of hooks and containers an entry lists
 unfoldable pub point_weight : Point → ℕ

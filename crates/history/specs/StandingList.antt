@@ -20,19 +20,29 @@ has_name name names = list_any (same_name name) names
 unfoldable pub has_manifest : ManifestId → List ManifestId → Bool
 has_manifest id ids = list_any (same_manifest id) ids
 
+-- how a manifest stood
+unfoldable pub standing_of : ManifestId → List Standing → Option Standing
+standing_of id stood = find (λ (stands : Standing). same_manifest id stands.id) stood
+
+-- those of the champions that stood, in their order
+unfoldable pub chosen_standings : List ManifestId → List Standing → List Standing
+chosen_standings chosen stood = filter_map (λ id. standing_of id stood) chosen
+
+-- the others, as they stood
+unfoldable pub others_standing : List ManifestId → List Standing → List Standing
+others_standing chosen stood = filter (λ (stands : Standing). not (has_manifest stands.id chosen)) stood
+
 -- those of the champions that stood, in their order, then the others as they stood
 unfoldable pub promoted : List ManifestId → List Standing → List Standing
-promoted chosen stood =
-    filter_map (λ id. find (λ (standing : Standing). same_manifest id standing.id) stood) chosen
-    ++ filter (λ standing. not (has_manifest standing.id chosen)) stood
+promoted chosen stood = chosen_standings chosen stood ++ others_standing chosen stood
 
 -- what stood, without the manifests of a session
 unfoldable pub without_session : ℕ → List Standing → List Standing
-without_session session stood = filter (λ standing. not (standing.id.session == session)) stood
+without_session session stood = filter (λ (stands : Standing). not (stands.id.session == session)) stood
 
 -- the manifest in front of what stood, cut to the bound
 unfoldable pub in_front : ℕ → Standing → List Standing → List Standing
-in_front bound standing stood = take bound (standing ∷ stood)
+in_front bound newest stood = take bound (newest ∷ stood)
 
 -- what stands at a hook after an entry, by what stood and by the entries before
 unfoldable pub standing_after : ℕ → Name → Point → List Entry → List Standing → List Standing

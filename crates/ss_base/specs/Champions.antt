@@ -28,10 +28,14 @@ is_at_least lists a b =
 unfoldable pub candidates : List (List Standing) → List Standing
 candidates lists = flat_map (λ stood. stood) lists
 
+-- whether none of the others beats it
+unfoldable pub is_unbeaten : List (List Standing) → List Standing → Standing → Bool
+is_unbeaten lists others a = list_all (λ b. is_at_least lists a b) others
+
 -- The manifest that stands at the most hooks, and of several such the one committed last. There is none where
 -- nothing stands at any hook.
 unfoldable pub best : List (List Standing) → Option Standing
-best lists = find (λ a. list_all (λ b. is_at_least lists a b) (candidates lists)) (candidates lists)
+best lists = find (λ a. is_unbeaten lists (candidates lists) a) (candidates lists)
 
 -- the hooks that a manifest leaves uncovered: those at which it does not stand
 unfoldable pub uncovered : ManifestId → List (List Standing) → List (List Standing)
