@@ -76,21 +76,29 @@ unfoldable pub lists_use : ManifestId → ContainerId → Point → Bool
 lists_use id container (Commit manifest content text chunks bytes fresh fresh_bytes uses) = same_manifest id manifest && has_container container uses
 lists_use id container _ = false
 
+-- whether the container is a use of one of the manifests
+unfoldable pub is_use_of_any : List ManifestId → List Entry → ContainerId → Bool
+is_use_of_any manifests past id = list_any (λ manifest. has (lists_use manifest id) past) manifests
+
 -- a container of the session's own with an ordinal below 2^32 - 1, or a use of one of the champions
 unfoldable pub is_use : ℕ → List ManifestId → List Entry → ContainerId → Bool
 is_use session champions past id =
     ((id.session == session) && nat_lt id.ordinal 4294967295)
-    || list_any (λ champion. has (lists_use champion id) past) champions
+    || is_use_of_any champions past id
 
 -- ascending, at most 4,096, and each is one that the session may use
 unfoldable pub are_uses : ℕ → List Entry → List ContainerId → Bool
 are_uses session past uses =
     is_ascending uses && (nat_le (length uses) 4096 && list_all (is_use session (pending_champions session past) past) uses)
 
+-- whether the session's own among the containers are below a number
+unfoldable pub are_own_below : ℕ → ℕ → List ContainerId → Bool
+are_own_below session n uses = list_all (λ (id : ContainerId). not (id.session == session) || nat_lt id.ordinal n) uses
+
 -- whether the session's own containers that an entry commits are below a number
 unfoldable pub is_own_below : ℕ → ℕ → Point → Bool
 is_own_below session n (Commit manifest content text chunks bytes fresh fresh_bytes uses) =
-    not (manifest.session == session) || list_all (λ (id : ContainerId). not (id.session == session) || nat_lt id.ordinal n) uses
+    not (manifest.session == session) || are_own_below session n uses
 is_own_below session n _ = true
 
 -- whether a number is above each own ordinal that the session used

@@ -10,6 +10,7 @@ mod item;
 mod items;
 mod laws;
 mod legal_laws;
+mod legality;
 mod logged;
 mod need_scan;
 mod reading;

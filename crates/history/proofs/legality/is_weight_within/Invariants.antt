@@ -1,0 +1,8 @@
+use Rattle.std.proofs.Common.{◌≡◌, ◌+◌, take}
+use Rattle.std.specs.List.{sum_by}
+use Rattle.history.specs.declared.entry.Entry.{Entry}
+use Rattle.history.specs.Legal.{point_weight}
+use Rattle.history.proofs.legality.is_weight_within.Given as goal
+
+abbrev pub invariant-loop-entry : goal.invariant-loop-entry
+invariant-loop-entry l = l.left + sum_by (λ (entry : Entry). point_weight entry.point) (take l.entry-index l.entries) ≡ l.limit
