@@ -76,7 +76,7 @@ fn all_are_hooks(bits: u32, hooks: &[Name]) -> bool
 }
 
 #[tactic(auto, unfolding(crate::specs::Legal::are_hooks))]
-fn are_hooks(bits: u32, hooks: &[Name]) -> bool
+pub(crate) fn are_hooks(bits: u32, hooks: &[Name]) -> bool
     requires { bits ≤ 32 }
     ensures { result ≡ are_hooks bits hooks.now }
 {
@@ -84,14 +84,14 @@ fn are_hooks(bits: u32, hooks: &[Name]) -> bool
 }
 
 #[tactic(auto, unfolding(crate::specs::Legal::is_open_to))]
-fn is_open_to(author: u32, session: u32, entries: &[Entry]) -> bool
+pub(crate) fn is_open_to(author: u32, session: u32, entries: &[Entry]) -> bool
     ensures { result ≡ is_open_to author session (reverse entries.now) }
 {
     is_unfinished(session, entries) && is_begun_by(author, session, entries)
 }
 
 #[tactic(auto, unfolding(crate::specs::Legal::reply_to_begin))]
-fn reply_to_begin(name: &StreamName, entries: &[Entry]) -> Option<u32>
+pub(crate) fn reply_to_begin(name: &StreamName, entries: &[Entry]) -> Option<u32>
     requires { length entries.now < 2 ^ 32 }
     ensures { result ≡ reply_to_begin name.now (reverse entries.now) }
 {
@@ -103,7 +103,7 @@ fn reply_to_begin(name: &StreamName, entries: &[Entry]) -> Option<u32>
 }
 
 #[tactic(auto, unfolding(crate::specs::Legal::reply_to_look))]
-fn reply_to_look(name: &StreamName, entries: &[Entry]) -> Option<Seen>
+pub(crate) fn reply_to_look(name: &StreamName, entries: &[Entry]) -> Option<Seen>
     requires { length entries.now < 2 ^ 32 }
     ensures { result ≡ reply_to_look name.now (reverse entries.now) }
 {
@@ -167,7 +167,7 @@ fn all_are_uses(
 }
 
 #[tactic(auto, unfolding(crate::specs::Legal::are_uses))]
-fn are_uses(session: u32, entries: &[Entry], uses: &[ContainerId]) -> bool
+pub(crate) fn are_uses(session: u32, entries: &[Entry], uses: &[ContainerId]) -> bool
     ensures { result ≡ are_uses session (reverse entries.now) uses.now }
 {
     let champions = pending_champions(session, entries);
@@ -195,7 +195,7 @@ fn is_own_below(session: u32, n: u32, point: &Point) -> bool
 }
 
 #[tactic(auto, unfolding(crate::specs::Legal::is_above_own))]
-fn is_above_own(session: u32, n: u32, entries: &[Entry]) -> bool
+pub(crate) fn is_above_own(session: u32, n: u32, entries: &[Entry]) -> bool
     ensures { result ≡ is_above_own session n (reverse entries.now) }
 {
     entries
@@ -205,7 +205,7 @@ fn is_above_own(session: u32, n: u32, entries: &[Entry]) -> bool
 }
 
 #[tactic(auto, unfolding(crate::specs::Legal::are_texts))]
-fn are_texts(session: u32, texts: u32, entries: &[Entry]) -> bool
+pub(crate) fn are_texts(session: u32, texts: u32, entries: &[Entry]) -> bool
     requires { length entries.now < 2 ^ 32 }
     ensures { result ≡ are_texts session texts (reverse entries.now) }
 {
@@ -286,7 +286,7 @@ fn is_weight_within(limit: u32, entries: &[Entry]) -> bool
 }
 
 #[tactic(auto, unfolding(crate::specs::Legal::is_within))]
-fn is_within(limits: &Limits, entries: &[Entry]) -> bool
+pub(crate) fn is_within(limits: &Limits, entries: &[Entry]) -> bool
     requires { length entries.now < 2 ^ 32 }
     ensures { result ≡ is_within limits.now (reverse entries.now) }
 {
