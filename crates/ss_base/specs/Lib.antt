@@ -5,3 +5,4 @@ pub mod StreamName
 pub mod ObjectName
 pub mod Padded
 pub mod Origins
+pub mod Champions
