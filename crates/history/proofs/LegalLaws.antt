@@ -1,6 +1,12 @@
 -- Laws of legal histories.
-use Rattle.std.proofs.Common.{◌≡◌, Bool, true, false, ◌&&◌, List, [], ◌∷◌, ◌++◌, refl, ap, ◌∙◌}
+use Rattle.std.proofs.Common.{◌≡◌, ℕ, ◌≤◌, ◌<◌, ◌+◌, get_or, subst, below_more, take, length, arith, Bool, true, false, ◌&&◌, List, [], ◌∷◌, ◌++◌, refl, ap, ◌∙◌}
 use Rattle.history.specs.declared.entry.Entry.{Entry}
+use Rattle.history.specs.declared.entry.Point.{Point}
+use Rattle.history.specs.declared.entry.Point.TheVariants.{Begin, Choose, Commit, Finish, Abort, Delete, Look, Done, Reclaim, Stat}
+use Rattle.std.specs.Cmp.Lexicographic.{pointwise, as_long}
+use Rattle.std.proofs.lemmas.List.{length-take, get_or_default}
+use Rattle.history.specs.Need.{same_object, erasable}
+use Rattle.history.specs.TotalsOf.{objects_named}
 use Rattle.history.specs.declared.rules.Rules.{Rules}
 use Rattle.history.specs.Legal.{is_legal, may_follow, is_allowed, is_within}
 
@@ -26,3 +32,24 @@ is_legal-more rules entry past allowed within legal is_a is_w =
 pub is_legal-none : (rules : Rules) → is_legal rules [] ≡ true
 unfolding is_legal
 is_legal-none rules = refl
+
+-- an entry that is allowed names at most 16 objects
+pub few_objects : (rules : Rules) (past : List Entry) (author : ℕ) (point : Point) → is_allowed rules past author point ≡ true → objects_named point ≤ 16
+unfolding is_allowed objects_named
+few_objects rules past author (Reclaim objects) allowed =
+    let same : length objects ≡ length (take 16 (erasable past)) = as_long same_object objects (take 16 (erasable past)) allowed in
+    omega (arith, same, length-take 16 (erasable past))
+few_objects rules past author (Begin name session) allowed = omega arith
+few_objects rules past author (Choose session hooks champions) allowed = omega arith
+few_objects rules past author (Commit manifest content text chunks bytes fresh fresh_bytes uses) allowed = omega arith
+few_objects rules past author (Finish session containers) allowed = omega arith
+few_objects rules past author (Abort session containers texts) allowed = omega arith
+few_objects rules past author (Delete name session) allowed = omega arith
+few_objects rules past author (Look name seen) allowed = omega arith
+few_objects rules past author (Done reader) allowed = omega arith
+few_objects rules past author (Stat totals) allowed = omega arith
+
+pub named_more : (entries : List Entry) (i : ℕ) (entry : Entry) → i < length entries → entry ≡ get_or entries i entry → ((k : ℕ) (d : Entry) → k < i → objects_named (get_or entries k d).point ≤ 16) → objects_named entry.point ≤ 16 → (k : ℕ) (d : Entry) → k < i + 1 → objects_named (get_or entries k d).point ≤ 16
+named_more entries i entry below is before here k d at =
+    below_more (λ (j : ℕ). objects_named (get_or entries j d).point ≤ 16) i (λ j less. before j d less)
+    (subst (λ (e : Entry). objects_named e.point ≤ 16) (is ∙ get_or_default entries i entry d below) here) k at

@@ -4,6 +4,5 @@ pub mod Fields
 pub mod Entries
 mod Scans
 mod Objects
-mod TotalsLaws
 mod Rounds
 mod LegalLaws

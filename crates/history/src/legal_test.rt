@@ -3,7 +3,8 @@ ghost use Rattle.std.specs.Prelude.{◌≡◌, ◌+◌, ◌≤◌, ◌<◌, ◌^
 ghost use Rattle.std.specs.Cmp.Lexicographic.{pointwise};
 ghost use Rattle.std.specs.Option.{option_eq};
 ghost use Rattle.ss_base.specs.Champions.{same_manifest};
-ghost use Rattle.history.specs.Bounds.{IsWithinBounds};
+ghost use Rattle.history.specs.declared.entry.Entry.{Entry};
+ghost use Rattle.history.specs.TotalsOf.{objects_named};
 ghost use Rattle.history.specs.Reading.{are_counts};
 ghost use Rattle.history.specs.Need.{same_object};
 ghost use Rattle.history.specs.Legal.{same_seen, same_totals, is_allowed, may_follow, is_legal};
@@ -91,7 +92,7 @@ fn is_allowed(
 ) -> Result<bool, Memory>
     requires bits { rules.now.bits ≤ 32 }
     requires few { length before.now < 2 ^ 32 }
-    requires bounds { All IsWithinBounds before.now }
+    requires named { All (λ (entry : Entry). objects_named entry.point ≤ 16) before.now }
     ensures { IfOk result (λ allowed. allowed ≡ is_allowed rules.now (reverse before.now) author point.now) }
 {
     match point {
@@ -164,7 +165,7 @@ fn is_allowed(
 }
 
 /// The number of the first entry that may not follow those before it. `None`: the history is legal. The entries are
-/// fewer than 2^32, and each is within the bounds of its text.
+/// fewer than 2^32.
 pub fn first_illegal(
     alloc: Global,
     rules: &Rules,
@@ -172,7 +173,6 @@ pub fn first_illegal(
 ) -> Result<Option<usize>, Memory>
     requires bits { rules.now.bits ≤ 32 }
     requires few { length entries.now < 2 ^ 32 }
-    requires bounds { All IsWithinBounds entries.now }
     ensures legal { IfOk result (λ found. IfNone found (is_legal rules.now (reverse entries.now) ≡ true)) }
     ensures before { IfOk result (λ found. IfSome found (λ k. is_legal rules.now (reverse (take k entries.now)) ≡ true)) }
     ensures first { IfOk result (λ found. IfSome found (λ k. (k < length entries.now)

@@ -1,7 +1,6 @@
 // The totals of a history, by scanning its entries.
 ghost use Rattle.std.specs.Prelude.{◌≡◌, ◌<◌, ◌≤◌, ◌^◌, All, length, reverse, sum_by, count_by, IfOk};
 ghost use Rattle.history.specs.declared.entry.Entry.{Entry};
-ghost use Rattle.history.specs.Bounds.{IsWithinBounds};
 ghost use Rattle.history.specs.Sessions.{sessions, is_retained};
 ghost use Rattle.history.specs.Need.{containers_closed};
 ghost use Rattle.history.specs.TotalsOf.{bytes_retained, bytes_stored, objects_named, stream_began, totals};
@@ -109,7 +108,7 @@ fn containers(entries: &[Entry]) -> u64
 
 fn reclaimed(entries: &[Entry]) -> u64
     requires few { length entries.now < 2 ^ 32 }
-    requires bounds { All (λ (entry : Entry). objects_named entry.point ≤ 16) entries.now }
+    requires named { All (λ (entry : Entry). objects_named entry.point ≤ 16) entries.now }
     ensures { result ≡ sum_by (λ (entry : Entry). objects_named entry.point) (reverse entries.now) }
 {
     let mut sum: u64 = 0;
@@ -119,12 +118,13 @@ fn reclaimed(entries: &[Entry]) -> u64
     sum
 }
 
-/// The totals of these entries. The entries are fewer than 2^32, and each is within the bounds of its text. It takes
+/// The totals of these entries. The entries are fewer than 2^32, and each names at most 16 objects, as
+/// those of a legal history do. It takes
 /// no memory.
 #[tactic(auto, unfolding(crate::specs::TotalsOf::totals))]
 pub fn totals(_alloc: Global, entries: &[Entry]) -> Result<Totals, Memory>
     requires few { length entries.now < 2 ^ 32 }
-    requires bounds { All IsWithinBounds entries.now }
+    requires named { All (λ (entry : Entry). objects_named entry.point ≤ 16) entries.now }
     ensures { result ≡ Ok (totals (reverse entries.now)) }
 {
     Ok(Totals {
