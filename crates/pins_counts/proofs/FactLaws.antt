@@ -1,0 +1,236 @@
+-- Facts kept in a tree, as the numbers and the set that they are seen as.
+use Rattle.std.proofs.Common.{◌≡◌, refl, sym, ◌∙◌, ap, subst, ℕ, ◌+◌, List, [], ◌∷◌, map, Bool, true, false, cond, ◌||◌, ◌&&◌, not, Option, None, Some, inl, inr, ◌⊎◌, unwrap_or, is_some, IsTrue, arith}
+use Rattle.std.specs.Option.{option_map}
+use Rattle.std.specs.declared.cmp.Ordering.{Ordering}
+use Rattle.std.specs.Ordering.{nat_cmp}
+use Rattle.std.specs.Cmp.{IsTotalOrder}
+use Rattle.std.specs.Map.{lookup}
+use Rattle.std.specs.BTreeMap as tree
+use Rattle.std.specs.FinMap as map
+use Rattle.std.specs.FinSet as set
+use Rattle.std.proofs.lemmas.Cmp.{eq_by_cmp_equiv}
+use Rattle.std.proofs.lemmas.Map.Lookups.{CmpEqualImpliesEq, exact_pairs, exact_unsigned}
+use Rattle.std.proofs.lemmas.Map.Views.{tells_apart}
+use Rattle.ss_base.specs.declared.object.Object.{Object}
+use Rattle.ss_base.specs.declared.object.Object.TheVariants.{Container, Manifest}
+use Rattle.ss_base.specs.contracts.object.ObjectOrd.TheImpl as object_ord
+use Rattle.ss_base.specs.contracts.object.ObjectOrd.TheImpl.Laws.{total-law}
+use Rattle.pins_counts.specs.declared.fact.Fact.{Fact}
+use Rattle.pins_counts.specs.Order.{object_cmp, same_object}
+use Rattle.pins_counts.specs.Facts.{numbers_of, gone_of, is_gone_fact, fact_at, fact_or_nothing, nothing, OneSet}
+
+-- the order that the derive gives
+abbrev pub derived : Object → Object → Ordering
+derived = (object_ord.ghosts).cmp
+
+derived_is : (x y : Object) → derived x y ≡ object_cmp x y
+derived_is (Container c) (Container d) = refl
+derived_is (Container c) (Manifest n) = refl
+derived_is (Manifest m) (Container d) = refl
+derived_is (Manifest m) (Manifest n) = refl
+
+pub derived-object_cmp : derived ≡ object_cmp
+derived-object_cmp i x y = derived_is x y i
+
+-- the order of objects is total
+pub objects_total : IsTotalOrder object_cmp
+objects_total = subst IsTotalOrder derived-object_cmp total-law
+
+-- objects that compare alike are one
+pub exact_objects : CmpEqualImpliesEq object_cmp
+exact_objects (Container c) (Container d) h = ap (λ (p : ℕ × ℕ). Container (record { session = p.0; ordinal = p.1 })) (exact_pairs nat_cmp nat_cmp exact_unsigned exact_unsigned (c.session, c.ordinal) (d.session, d.ordinal) h)
+exact_objects (Container c) (Manifest n) h = cc
+exact_objects (Manifest m) (Container d) h = cc
+exact_objects (Manifest m) (Manifest n) h = ap (λ (p : ℕ × ℕ). Manifest (record { session = p.0; seq = p.1 })) (exact_pairs nat_cmp nat_cmp exact_unsigned exact_unsigned (m.session, m.seq) (n.session, n.seq) h)
+
+-- an object is itself
+pub same_itself : (k : Object) → same_object k k ≡ true
+same_itself k = (eq_by_cmp_equiv objects_total).refl k
+
+-- two objects are one or not
+pub one_or_other : (q k : Object) → (q ≡ k) ⊎ (same_object q k ≡ false)
+one_or_other q k =
+    elim (same_object q k) as (λ b. same_object q k ≡ b → (q ≡ k) ⊎ (same_object q k ≡ false)) [
+      | true ↦ λ e. inl (tells_apart exact_objects q k e)
+      | false ↦ λ e. inr e
+    ] refl
+
+abbrev pub number_in : Option Fact → ℕ
+number_in found = unwrap_or (option_map (λ f. f.number) found) 0
+
+abbrev pub gone_in : Option Fact → Bool
+gone_in None = false
+gone_in (Some f) = is_gone_fact f
+
+cond_number : (b : Bool) (f : Fact) (o : Option Fact) → cond b (Some f.number) (option_map (λ g. g.number) o) ≡ option_map (λ g. g.number) (cond b (Some f) o)
+cond_number true f o = refl
+cond_number false f o = refl
+
+find_number : (es : List (Object × Fact)) (q : Object) → map.find object_cmp q (map (λ e. (e.0, e.1.number)) es) ≡ option_map (λ f. f.number) (lookup (tree.is_at (object_cmp q)) es)
+find_number [] q = refl
+find_number (e ∷ es) q = ap (cond (tree.is_at (object_cmp q) e.0) (Some e.1.number)) (find_number es q) ∙ cond_number (tree.is_at (object_cmp q) e.0) e.1 (lookup (tree.is_at (object_cmp q)) es)
+
+-- what the numbers have at an object
+pub get-numbers_of : (m : tree.BTreeMap Object Fact) (q : Object) → map.get (numbers_of m.entries) q ≡ option_map (λ f. f.number) (fact_at m q)
+get-numbers_of m q = map.get-from_entries objects_total _ q ∙ find_number m.entries q
+
+cond_gone : (same gone : Bool) (f : Fact) (o : Option Fact) → is_gone_fact f ≡ gone → cond gone (same || gone_in o) (not same && gone_in o) ≡ gone_in (cond same (Some f) o)
+cond_gone true true f o e = sym e
+cond_gone true false f o e = sym e
+cond_gone false true f o e = refl
+cond_gone false false f o e = refl
+
+contains-cond : (gone : Bool) (s : set.FinSet object_cmp) (k q : Object) → set.contains (cond gone (set.insert s k) (set.remove s k)) q ≡ cond gone (same_object q k || set.contains s q) (not (same_object q k) && set.contains s q)
+contains-cond true s k q = set.contains-insert objects_total s k q
+contains-cond false s k q = set.contains-remove objects_total s k q
+
+contains-entries : (es : List (Object × Fact)) (q : Object) → set.contains (gone_of es) q ≡ gone_in (lookup (tree.is_at (object_cmp q)) es)
+contains-entries [] q = set.contains-empty object_cmp q
+contains-entries (e ∷ es) q =
+    contains-cond (is_gone_fact e.1) (gone_of es) e.0 q
+    ∙ ap (λ b. cond (is_gone_fact e.1) (same_object q e.0 || b) (not (same_object q e.0) && b)) (contains-entries es q)
+    ∙ cond_gone (same_object q e.0) (is_gone_fact e.1) e.1 (lookup (tree.is_at (object_cmp q)) es) refl
+
+-- which objects are gone
+pub contains-gone_of : (m : tree.BTreeMap Object Fact) (q : Object) → set.contains (gone_of m.entries) q ≡ gone_in (fact_at m q)
+contains-gone_of m q = contains-entries m.entries q
+
+-- what std says of one entry that is set
+pub one_set : (m n : tree.BTreeMap Object Fact) (k : Object) (w : Fact) → tree.UpdatesBy derived (derived k) m n (Some w) → OneSet m n k w
+one_set m n k w updates =
+    let u : tree.UpdatesBy object_cmp (object_cmp k) m n (Some w) = subst (λ R. tree.UpdatesBy R (R k) m n (Some w)) derived-object_cmp updates in
+    record {
+      here = u.1;
+      other = λ q apart. u.2 q ((eq_by_cmp_equiv objects_total).symm k q ∙ apart);
+    }
+
+-- what a look-up answers
+pub found_at : (m : tree.BTreeMap Object Fact) (k : Object) (found : Option Fact) → found ≡ tree.get derived m k → found ≡ fact_at m k
+found_at m k found is = is ∙ ap (λ R. tree.get R m k) derived-object_cmp
+
+-- what holds at one object and at each other holds at all
+pub by_object : (P : Object → Type 0) (k : Object) → P k → ((q : Object) → same_object q k ≡ false → P q) → (q : Object) → P q
+by_object P k here other q = elim (one_or_other q k) as (λ _. P q) [
+  | inl e ↦ subst P (sym e) here
+  | inr apart ↦ other q apart
+]
+
+pub number_is : (m : tree.BTreeMap Object Fact) (q : Object) → unwrap_or (map.get (numbers_of m.entries) q) 0 ≡ number_in (fact_at m q)
+number_is m q = ap (λ o. unwrap_or o 0) (get-numbers_of m q)
+
+some_number : (o : Option Fact) → is_some (option_map (λ f. f.number) o) ≡ is_some o
+some_number None = refl
+some_number (Some f) = refl
+
+pub ready_is : (m : tree.BTreeMap Object Fact) (q : Object) → map.contains_key (numbers_of m.entries) q ≡ is_some (fact_at m q)
+ready_is m q = ap is_some (get-numbers_of m q) ∙ some_number (fact_at m q)
+
+or_true : (a : Bool) → (a || true) ≡ true
+or_true true = refl
+or_true false = refl
+
+or_false : (a : Bool) → (a || false) ≡ a
+or_false true = refl
+or_false false = refl
+
+no_more : (a b : ℕ) → a ≡ b → a ≡ b + 0
+no_more a b e = omega arith
+
+module _ (m n : tree.BTreeMap Object Fact) (k : Object) (w : Fact) (set_to : OneSet m n k w) where
+  -- the number of one object rises by one
+  pub number_added : w.number ≡ number_in (fact_at m k) + 1
+      → (q : Object) → unwrap_or (map.get (numbers_of n.entries) q) 0 ≡ unwrap_or (map.get (numbers_of m.entries) q) 0 + cond (same_object q k) 1 0
+  number_added more q =
+      number_is n q
+      ∙ by_object (λ q. number_in (fact_at n q) ≡ number_in (fact_at m q) + cond (same_object q k) 1 0) k
+      (ap number_in set_to.here ∙ more ∙ ap (λ b. number_in (fact_at m k) + cond b 1 0) (sym (same_itself k)))
+      (λ q apart. no_more _ _ (ap number_in (set_to.other q apart)) ∙ ap (λ b. number_in (fact_at m q) + cond b 1 0) (sym apart)) q
+      ∙ ap (λ x. x + cond (same_object q k) 1 0) (sym (number_is m q))
+
+  -- the number of one object falls by one
+  pub number_taken : number_in (fact_at m k) ≡ w.number + 1
+      → (q : Object) → unwrap_or (map.get (numbers_of m.entries) q) 0 ≡ unwrap_or (map.get (numbers_of n.entries) q) 0 + cond (same_object q k) 1 0
+  number_taken more q =
+      number_is m q
+      ∙ by_object (λ q. number_in (fact_at m q) ≡ number_in (fact_at n q) + cond (same_object q k) 1 0) k
+      (more ∙ (λ i. number_in (sym set_to.here i) + cond (sym (same_itself k) i) 1 0))
+      (λ q apart. no_more _ _ (ap number_in (sym (set_to.other q apart))) ∙ ap (λ b. number_in (fact_at n q) + cond b 1 0) (sym apart)) q
+      ∙ ap (λ x. x + cond (same_object q k) 1 0) (sym (number_is n q))
+
+  -- what was there is there
+  pub ready_kept : IsTrue (is_some (fact_at m k)) → (q : Object) → map.contains_key (numbers_of n.entries) q ≡ map.contains_key (numbers_of m.entries) q
+  ready_kept there q =
+      ready_is n q
+      ∙ by_object (λ q. is_some (fact_at n q) ≡ is_some (fact_at m q)) k (ap is_some set_to.here ∙ sym there) (λ q apart. ap is_some (set_to.other q apart)) q
+      ∙ sym (ready_is m q)
+
+  -- the numbers stay where the one is as before
+  pub number_kept : w.number ≡ number_in (fact_at m k) → (q : Object) → unwrap_or (map.get (numbers_of n.entries) q) 0 ≡ unwrap_or (map.get (numbers_of m.entries) q) 0
+  number_kept same q =
+      number_is n q
+      ∙ by_object (λ q. number_in (fact_at n q) ≡ number_in (fact_at m q)) k (ap number_in set_to.here ∙ same) (λ q apart. ap number_in (set_to.other q apart)) q
+      ∙ sym (number_is m q)
+
+  -- and so does the map, where the object was there
+  pub numbers_kept : (f : Fact) → fact_at m k ≡ Some f → w.number ≡ f.number → numbers_of n.entries ≡ numbers_of m.entries
+  numbers_kept f there same = map.same_map objects_total exact_objects _ _ (λ q.
+      get-numbers_of n q
+      ∙ by_object (λ q. option_map (λ f. f.number) (fact_at n q) ≡ option_map (λ f. f.number) (fact_at m q)) k
+      (ap (option_map (λ f. f.number)) set_to.here ∙ ap Some same ∙ ap (option_map (λ f. f.number)) (sym there))
+      (λ q apart. ap (option_map (λ f. f.number)) (set_to.other q apart)) q
+      ∙ sym (get-numbers_of m q))
+
+  -- what is gone stays where the one is as before
+  pub gone_kept : is_gone_fact w ≡ gone_in (fact_at m k) → gone_of n.entries ≡ gone_of m.entries
+  gone_kept same = set.same_set objects_total exact_objects _ _ (λ q.
+      contains-gone_of n q
+      ∙ by_object (λ q. gone_in (fact_at n q) ≡ gone_in (fact_at m q)) k (ap gone_in set_to.here ∙ same) (λ q apart. ap gone_in (set_to.other q apart)) q
+      ∙ sym (contains-gone_of m q))
+
+  -- one object more is gone
+  pub gone_added : is_gone_fact w ≡ true → (q : Object) → set.contains (gone_of n.entries) q ≡ (set.contains (gone_of m.entries) q || same_object q k)
+  gone_added gone q =
+      contains-gone_of n q
+      ∙ by_object (λ q. gone_in (fact_at n q) ≡ (gone_in (fact_at m q) || same_object q k)) k
+      (ap gone_in set_to.here ∙ gone ∙ sym (or_true (gone_in (fact_at m k))) ∙ ap (λ b. gone_in (fact_at m k) || b) (sym (same_itself k)))
+      (λ q apart. ap gone_in (set_to.other q apart) ∙ sym (or_false (gone_in (fact_at m q))) ∙ ap (λ b. gone_in (fact_at m q) || b) (sym apart)) q
+      ∙ ap (λ b. b || same_object q k) (sym (contains-gone_of m q))
+
+  -- one object more is ready
+  pub ready_made : (q : Object) → map.contains_key (numbers_of n.entries) q ≡ (same_object q k || map.contains_key (numbers_of m.entries) q)
+  ready_made q =
+      ready_is n q
+      ∙ by_object (λ q. is_some (fact_at n q) ≡ (same_object q k || is_some (fact_at m q))) k
+      (ap is_some set_to.here ∙ ap (λ b. b || is_some (fact_at m k)) (sym (same_itself k)))
+      (λ q apart. ap is_some (set_to.other q apart) ∙ ap (λ b. b || is_some (fact_at m q)) (sym apart)) q
+      ∙ ap (λ b. same_object q k || b) (sym (ready_is m q))
+
+-- where there was no room there is nothing
+pub nothing_there : (found : Option Fact) → is_some found ≡ false → fact_or_nothing found ≡ nothing
+nothing_there None absent = refl
+nothing_there (Some f) absent = cc
+
+-- what is kept, where there is room
+pub something_there : (found : Option Fact) → is_some found ≡ true → found ≡ Some (fact_or_nothing found)
+something_there None there = cc
+something_there (Some f) there = refl
+
+pub number_of_nothing : (found : Option Fact) → (fact_or_nothing found).number ≡ number_in found
+number_of_nothing None = refl
+number_of_nothing (Some f) = refl
+
+pub gone_of_nothing : (found : Option Fact) → is_gone_fact (fact_or_nothing found) ≡ gone_in found
+gone_of_nothing None = refl
+gone_of_nothing (Some f) = refl
+
+-- there is room for what is ready
+pub room_for : (m : tree.BTreeMap Object Fact) (k : Object) → map.contains_key (numbers_of m.entries) k ≡ true → is_some (fact_at m k) ≡ true
+room_for m k ready = sym (ready_is m k) ∙ ready
+
+-- the number of what is kept is the object's
+pub number_here : (m : tree.BTreeMap Object Fact) (k : Object) (f : Fact) → f ≡ fact_or_nothing (fact_at m k) → f.number ≡ unwrap_or (map.get (numbers_of m.entries) k) 0
+number_here m k f is = ap (λ f. f.number) is ∙ number_of_nothing (fact_at m k) ∙ sym (number_is m k)
+
+-- and so is what it says of being gone
+pub gone_here : (m : tree.BTreeMap Object Fact) (k : Object) (f : Fact) → f ≡ fact_or_nothing (fact_at m k) → is_gone_fact f ≡ set.contains (gone_of m.entries) k
+gone_here m k f is = ap is_gone_fact is ∙ gone_of_nothing (fact_at m k) ∙ sym (contains-gone_of m k)

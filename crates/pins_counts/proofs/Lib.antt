@@ -1,0 +1,3 @@
+mod FactLaws
+mod LoopLaws
+mod WalkLaws

@@ -1,0 +1,61 @@
+-- How the dead objects are found: a walk over numbers and one over sessions.
+use Rattle.std.proofs.Common.{◌≡◌, refl, sym, ◌∙◌, ap, subst, ℕ, zero, suc, ◌+◌, ◌-◌, ◌<◌, ◌≤◌, List, [], ◌∷◌, ◌++◌, take, drop, length, filter, Bool, true, false, cond, Option, arith, append_assoc, get_or, add-one}
+use Rattle.std.proofs.Math.Seq.{drop-cons}
+use Rattle.std.proofs.lemmas.List.{length-append}
+use Rattle.std.proofs.lemmas.List.Elements.{filter-append}
+use Rattle.ss_base.specs.declared.object.Object.{Object}
+use Rattle.pins_counts.specs.declared.kind.Ended.{Ended}
+use Rattle.pins_counts.specs.declared.kind.Kind.{Kind}
+use Rattle.pins_counts.specs.Counts.{object_of, objects_of, objects_from}
+
+-- what is found, with the dead ones of what is left, is what there is to find
+pub record Finds (limit : ℕ) (found left goal : List Object) : Type 0 where
+  pub small : length found ≤ limit
+  pub same : take limit (found ++ left) ≡ goal
+
+-- the first of the objects that are left
+pub first_of : (kind : Kind) (session next count : ℕ) → next < count → objects_of kind session next (count - next) ≡ object_of kind session next ∷ objects_of kind session (next + 1) (count - (next + 1))
+first_of kind session next count below =
+    let e : count - next ≡ suc (count - (next + 1)) = omega arith in
+    ap (objects_of kind session next) e
+
+module _ (limit : ℕ) (idle : Object → Bool) where
+  -- a dead object is found
+  pub finds_one : (found : List Object) (x : Object) (xs goal : List Object) → idle x ≡ true → length found < limit → Finds limit found (filter idle (x ∷ xs)) goal → Finds limit (found ++ x ∷ []) (filter idle xs) goal
+  finds_one found x xs goal is below so = record {
+    small = omega (arith, length-append found (x ∷ []));
+    same = ap (take limit) (append_assoc found (x ∷ []) (filter idle xs) ∙ ap (λ b. found ++ cond b (x ∷ filter idle xs) (filter idle xs)) (sym is)) ∙ so.same;
+  }
+
+  -- one that isn't dead is passed
+  pub finds_none : (found : List Object) (x : Object) (xs goal : List Object) → idle x ≡ false → Finds limit found (filter idle (x ∷ xs)) goal → Finds limit found (filter idle xs) goal
+  finds_none found x xs goal is so = record {
+    small = so.small;
+    same = ap (take limit) (ap (λ b. found ++ cond b (x ∷ filter idle xs) (filter idle xs)) (sym is)) ∙ so.same;
+  }
+
+take_again : (n : ℕ) (xs ys : List Object) → take n (take n xs ++ ys) ≡ take n (xs ++ ys)
+take_again zero xs ys = refl
+take_again (suc n) [] ys = refl
+take_again (suc n) (x ∷ xs) ys = ap (λ zs. x ∷ zs) (take_again n xs ys)
+
+length_take : (n : ℕ) (xs : List Object) → length (take n xs) ≤ n
+length_take zero xs = omega arith
+length_take (suc n) [] = omega arith
+length_take (suc n) (x ∷ xs) = omega (arith, length_take n xs)
+
+-- what a session adds is found
+pub finds_many : (limit : ℕ) (idle : Object → Bool) (found more xs ys goal : List Object) → more ≡ take limit (found ++ filter idle xs)
+    → Finds limit found (filter idle (xs ++ ys)) goal → Finds limit more (filter idle ys) goal
+finds_many limit idle found more xs ys goal is so = record {
+  small = subst (λ zs. length zs ≤ limit) (sym is) (length_take limit (found ++ filter idle xs));
+  same =
+      ap (λ zs. take limit (zs ++ filter idle ys)) is ∙ take_again limit (found ++ filter idle xs) (filter idle ys)
+      ∙ ap (take limit) (append_assoc found (filter idle xs) (filter idle ys) ∙ ap (λ zs. found ++ zs) (sym (filter-append idle xs ys))) ∙ so.same;
+}
+
+-- the objects of the sessions from the next one on
+pub from_next : (kind : Kind) (sessions : List (Option Ended)) (i : ℕ) (d next : Option Ended) → i < length sessions → get_or sessions i d ≡ next
+    → objects_from kind i (drop i sessions) ≡ objects_from kind i (next ∷ drop (i + 1) sessions)
+from_next kind sessions i d next below is =
+    ap (objects_from kind i) (drop-cons sessions i d below ∙ (λ j. is j ∷ drop (sym (add-one i) j) sessions))

@@ -1,0 +1,21 @@
+use Rattle.std.proofs.Common.{◌∙◌, ap, ◌||◌}
+use Rattle.pins_counts.specs.Order.{same_object}
+use Rattle.pins_counts.specs.Counts.{number, is_ready}
+use Rattle.pins_counts.specs.Facts.{numbers_of, fact_at}
+use Rattle.pins_counts.proofs.FactLaws.{ready_made, number_kept, gone_kept, number_of_nothing, gone_of_nothing}
+use Rattle.pins_counts.proofs.counts.Counts.make_ready.Goals as goal
+
+pub returns-clause-ready : goal.returns-clause-ready
+returns-clause-ready c q =
+    ready_made c.self.inside.facts c.make_fact.new.facts c.args.object _ c.in_ok-make_fact.ensures.ok q ∙ ap (λ v. same_object q c.args.object || is_ready v q) c.self.view_is
+
+pub returns-clause-numbers : goal.returns-clause-numbers
+returns-clause-numbers c q =
+    let m = c.self.inside.facts in
+    number_kept m c.make_fact.new.facts c.args.object _ c.in_ok-make_fact.ensures.ok (number_of_nothing (fact_at m c.args.object)) q ∙ ap (λ v. number v q) c.self.view_is
+
+pub returns-clause-rest : goal.returns-clause-rest
+returns-clause-rest c =
+    let m = c.self.inside.facts in
+    let gone = gone_kept m c.make_fact.new.facts c.args.object _ c.in_ok-make_fact.ensures.ok (gone_of_nothing (fact_at m c.args.object)) ∙ ap (λ v. v.gone) c.self.view_is in
+    λ i. record { numbers = numbers_of c.make_fact.new.facts.entries; sessions = (c.self.view_is i).sessions; gone = gone i; room = (c.self.view_is i).room }

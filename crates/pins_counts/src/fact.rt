@@ -1,0 +1,49 @@
+// What is kept of an object.
+ghost use Rattle.std.specs.Prelude.{◌≡◌, IsSome, OnOk, OnErr, None};
+ghost use Rattle.std.specs.BTreeMap.{IsUnchanged};
+ghost use Rattle.pins_counts.specs.Facts.{fact_at, fact_or_nothing, OneSet};
+
+use ss_base::{Memory, Object};
+use std::collections::BTreeMap;
+
+#[derive(Clone, Copy)]
+pub(crate) struct Fact {
+    pub(crate) number: u32,
+    pub(crate) gone: bool,
+}
+
+pub(crate) const NOTHING: Fact = Fact {
+    number: 0,
+    gone: false,
+};
+
+// What is kept of the object, where there is room for it.
+pub(crate) fn fact_of(facts: &BTreeMap<Object, Fact>, object: Object) -> Fact
+    ensures { result ≡ fact_or_nothing (fact_at facts.now object) }
+{
+    match facts.get(&object) {
+        Some(fact) => *fact,
+        None => NOTHING,
+    }
+}
+
+// Keeps this of the object, for which there is room.
+pub(crate) fn set_fact(facts: &mut BTreeMap<Object, Fact>, object: Object, fact: Fact)
+    requires { IsSome (fact_at facts.old object) }
+    ensures { OneSet facts.old facts.new object fact }
+{
+    if let Some(kept) = facts.get_mut(&object) {
+        *kept = fact;
+    }
+}
+
+// Makes room for the object.
+pub(crate) fn make_fact(facts: &mut BTreeMap<Object, Fact>, object: Object) -> Result<(), Memory>
+    ensures ok { OnOk result (OneSet facts.old facts.new object (fact_or_nothing (fact_at facts.old object))) }
+    ensures err { OnErr result (IsUnchanged facts.old facts.new) }
+{
+    if !facts.contains_key(&object) {
+        facts.insert(object, NOTHING)?;
+    }
+    Ok(())
+}

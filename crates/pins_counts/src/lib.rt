@@ -1,0 +1,10 @@
+//! The numbers by which a store knows that nothing needs an object: how many live manifests use each container, how
+//! often each manifest is held, which sessions are closed, and which objects are gone.
+#![tactic(auto)]
+
+mod counts;
+mod fact;
+mod kind;
+
+pub use counts::Counts;
+pub use kind::Ended;
