@@ -107,3 +107,8 @@ module _ (uses : List ContainerId) (i : ℕ) (d : ContainerId) (distinct : IsDis
   pub number_unchanged : (less more : Counted) → Changed (containers (take i uses)) less more → number more (Container (get_or uses i d)) ≡ number less (Container (get_or uses i d))
   number_unchanged less more so =
       so.numbers _ ∙ ap (λ b. number less (Container (get_or uses i d)) + one_if b) (fresh_use uses i d distinct below) ∙ sym (no_more _)
+
+-- one object is distinct
+pub distinct_one : (q : Object) → IsDistinct (eq_by_cmp object_cmp) (q ∷ [])
+unfolding IsDistinct
+distinct_one q = (tt, tt)

@@ -253,7 +253,7 @@ impl Counts {
         set_fact(&mut self.facts, object, Fact { gone: true, ..fact });
     }
 
-    fn number_of(&self, object: Object) -> u32
+    pub(crate) fn number_of(&self, object: Object) -> u32
         ensures { result ≡ number self.now object }
     {
         fact_of(&self.facts, object).number

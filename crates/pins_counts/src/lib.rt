@@ -8,3 +8,6 @@ mod kind;
 
 pub use counts::Counts;
 pub use kind::Ended;
+
+#[cfg(test)]
+mod tests;
