@@ -1,5 +1,5 @@
 -- Facts kept in a tree, as the numbers and the set that they are seen as.
-use Rattle.std.proofs.Common.{◌≡◌, refl, sym, ◌∙◌, ap, subst, ℕ, ◌+◌, List, [], ◌∷◌, map, Bool, true, false, cond, ◌||◌, ◌&&◌, not, Option, None, Some, inl, inr, ◌⊎◌, unwrap_or, is_some, IsTrue, arith}
+use Rattle.std.proofs.Common.{◌≡◌, refl, sym, ◌∙◌, ap, subst, ℕ, ◌+◌, List, [], ◌∷◌, map, Bool, true, false, cond, ◌||◌, ◌&&◌, not, Option, None, Some, inl, inr, ◌⊎◌, unwrap_or, is_some, IsTrue, arith, ◌<◌, ◌≤◌}
 use Rattle.std.specs.Option.{option_map}
 use Rattle.std.specs.declared.cmp.Ordering.{Ordering}
 use Rattle.std.specs.Ordering.{nat_cmp}
@@ -8,7 +8,7 @@ use Rattle.std.specs.Map.{lookup}
 use Rattle.std.specs.BTreeMap as tree
 use Rattle.std.specs.FinMap as map
 use Rattle.std.specs.FinSet as set
-use Rattle.std.proofs.lemmas.Cmp.{eq_by_cmp_equiv}
+use Rattle.std.proofs.lemmas.Cmp.{eq_by_cmp_equiv, ranked, by_ranked}
 use Rattle.std.proofs.lemmas.Map.Lookups.{CmpEqualImpliesEq, exact_pairs, exact_unsigned}
 use Rattle.std.proofs.lemmas.Map.Views.{tells_apart}
 use Rattle.ss_base.specs.declared.object.Object.{Object}
@@ -17,7 +17,8 @@ use Rattle.ss_base.specs.contracts.object.ObjectOrd.TheImpl as object_ord
 use Rattle.ss_base.specs.contracts.object.ObjectOrd.TheImpl.Laws.{total-law}
 use Rattle.pins_counts.specs.declared.fact.Fact.{Fact}
 use Rattle.pins_counts.specs.Order.{object_cmp, same_object}
-use Rattle.pins_counts.specs.Facts.{numbers_of, gone_of, is_gone_fact, fact_at, fact_or_nothing, nothing, OneSet}
+use Rattle.pins_counts.specs.Facts.{numbers_of, gone_of, is_gone_fact, fact_at, fact_or_nothing, nothing, OneSet, gone_in, run_in, Claims, IsSound, place_of, at_place, seen_in, gone_now}
+use Rattle.pins_counts.specs.declared.fact.Run.{Run}
 
 -- the order that the derive gives
 abbrev pub derived : Object → Object → Ordering
@@ -57,10 +58,6 @@ one_or_other q k =
 
 abbrev pub number_in : Option Fact → ℕ
 number_in found = unwrap_or (option_map (λ f. f.number) found) 0
-
-abbrev pub gone_in : Option Fact → Bool
-gone_in None = false
-gone_in (Some f) = is_gone_fact f
 
 cond_number : (b : Bool) (f : Fact) (o : Option Fact) → cond b (Some f.number) (option_map (λ g. g.number) o) ≡ option_map (λ g. g.number) (cond b (Some f) o)
 cond_number true f o = refl
@@ -234,3 +231,145 @@ number_here m k f is = ap (λ f. f.number) is ∙ number_of_nothing (fact_at m k
 -- and so is what it says of being gone
 pub gone_here : (m : tree.BTreeMap Object Fact) (k : Object) (f : Fact) → f ≡ fact_or_nothing (fact_at m k) → is_gone_fact f ≡ set.contains (gone_of m.entries) k
 gone_here m k f is = ap is_gone_fact is ∙ gone_of_nothing (fact_at m k) ∙ sym (contains-gone_of m k)
+
+gone_by_run : (found : Option Fact) → gone_in found ≡ is_some (run_in found)
+gone_by_run None = refl
+gone_by_run (Some f) = refl
+
+pub run_of_nothing : (found : Option Fact) → (fact_or_nothing found).gone ≡ run_in found
+run_of_nothing None = refl
+run_of_nothing (Some f) = refl
+
+-- what is known of neighbours stays so as more are gone
+pub claims_kept : (m n : tree.BTreeMap Object Fact) → ((q : Object) → gone_in (fact_at m q) ≡ true → gone_in (fact_at n q) ≡ true) → (q : Object) (run : Run) → Claims m q run → Claims n q run
+claims_kept m n grows q run claims = record {
+  before = λ k from to. grows _ (claims.before k from to);
+  after = λ k from to. grows _ (claims.after k from to);
+}
+
+-- one object is set, and what it then knows is so
+pub sound_set : (m n : tree.BTreeMap Object Fact) (k : Object) (w : Fact) → OneSet m n k w → IsSound m
+    → (gone_in (fact_at m k) ≡ true → is_gone_fact w ≡ true) → ((run : Run) → w.gone ≡ Some run → Claims n k run) → IsSound n
+sound_set m n k w set_to sound stays claims =
+    let grows : (q : Object) → gone_in (fact_at m q) ≡ true → gone_in (fact_at n q) ≡ true =
+    by_object (λ q. gone_in (fact_at m q) ≡ true → gone_in (fact_at n q) ≡ true) k (λ gone. ap gone_in set_to.here ∙ stays gone) (λ q apart gone. ap gone_in (set_to.other q apart) ∙ gone) in
+    record {
+      claims = by_object (λ q. (run : Run) → run_in (fact_at n q) ≡ Some run → Claims n q run) k
+          (λ run is. claims run (ap run_in (sym set_to.here) ∙ is))
+          (λ q apart run is. claims_kept m n grows q run (sound.claims q run (ap run_in (sym (set_to.other q apart)) ∙ is)));
+    }
+
+-- one object is set, and what it knows is as before
+pub sound_kept : (m n : tree.BTreeMap Object Fact) (k : Object) (w : Fact) → OneSet m n k w → IsSound m → w.gone ≡ run_in (fact_at m k) → IsSound n
+sound_kept m n k w set_to sound same =
+    let runs : (q : Object) → run_in (fact_at n q) ≡ run_in (fact_at m q) =
+    by_object (λ q. run_in (fact_at n q) ≡ run_in (fact_at m q)) k (ap run_in set_to.here ∙ same) (λ q apart. ap run_in (set_to.other q apart)) in
+    let grows : (q : Object) → gone_in (fact_at m q) ≡ true → gone_in (fact_at n q) ≡ true = λ q gone. gone_by_run _ ∙ ap is_some (runs q) ∙ sym (gone_by_run _) ∙ gone in
+    record { claims = λ q run is. claims_kept m n grows q run (sound.claims q run (sym (runs q) ∙ is)) }
+
+-- what is unchanged is as sound
+pub sound_same : (m n : tree.BTreeMap Object Fact) → n.entries ≡ m.entries → IsSound m → IsSound n
+sound_same m n same sound =
+    let facts : (q : Object) → fact_at n q ≡ fact_at m q = λ q. ap (lookup (tree.is_at (object_cmp q))) same in
+    record { claims = λ q run is. claims_kept m n (λ q gone. ap gone_in (facts q) ∙ gone) q run (sound.claims q run (ap run_in (sym (facts q)) ∙ is)) }
+
+pub place_at : (q : Object) (n : ℕ) → place_of (at_place q n) ≡ n
+place_at (Container c) n = refl
+place_at (Manifest m) n = refl
+
+pub at_same : (q : Object) (p n : ℕ) → at_place (at_place q p) n ≡ at_place q n
+at_same (Container c) p n = refl
+at_same (Manifest m) p n = refl
+
+pub at_itself : (q : Object) → at_place q (place_of q) ≡ q
+at_itself (Container c) = refl
+at_itself (Manifest m) = refl
+
+-- what a neighbour knows
+pub neighbour : (m : tree.BTreeMap Object Fact) (x : Object) (f : Fact) (run : Run) → IsSound m → f ≡ fact_or_nothing (fact_at m x) → f.gone ≡ Some run → Claims m x run
+neighbour m x f run sound is gone = sound.claims x run (sym (run_of_nothing (fact_at m x)) ∙ ap (λ f. f.gone) (sym is) ∙ gone)
+
+pub known_before : (m : tree.BTreeMap Object Fact) (q x : Object) (p : ℕ) (f : Fact) (run : Run) → x ≡ at_place q p → p + 1 ≡ place_of q → IsSound m → f ≡ fact_or_nothing (fact_at m x) → f.gone ≡ Some run
+    → (n : ℕ) → run.first ≤ n → n < place_of q → gone_in (fact_at m (at_place q n)) ≡ true
+known_before m q x p f run at next sound is gone n from below =
+    let claims = neighbour m x f run sound is gone in
+    let place : place_of x ≡ p = ap place_of at ∙ place_at q p in
+    let there : at_place x n ≡ at_place q n = ap (λ y. at_place y n) at ∙ at_same q p n in
+    subst (λ y. gone_in (fact_at m y) ≡ true) there (claims.before n from (omega arith))
+
+pub known_after : (m : tree.BTreeMap Object Fact) (q x : Object) (p : ℕ) (f : Fact) (run : Run) → x ≡ at_place q p → place_of q + 1 ≡ p → IsSound m → f ≡ fact_or_nothing (fact_at m x) → f.gone ≡ Some run
+    → (n : ℕ) → place_of q < n → n ≤ run.last → gone_in (fact_at m (at_place q n)) ≡ true
+known_after m q x p f run at next sound is gone n above to =
+    let claims = neighbour m x f run sound is gone in
+    let place : place_of x ≡ p = ap place_of at ∙ place_at q p in
+    let there : at_place x n ≡ at_place q n = ap (λ y. at_place y n) at ∙ at_same q p n in
+    subst (λ y. gone_in (fact_at m y) ≡ true) there (claims.after n (omega arith) to)
+
+module _ (m n : tree.BTreeMap Object Fact) (k : Object) (w : Fact) (set_to : OneSet m n k w) (gone : is_gone_fact w ≡ true) where
+  pub gone_grows : (q : Object) → gone_in (fact_at m q) ≡ true → gone_in (fact_at n q) ≡ true
+  gone_grows = by_object (λ q. gone_in (fact_at m q) ≡ true → gone_in (fact_at n q) ≡ true) k (λ _. ap gone_in set_to.here ∙ gone) (λ q apart was. ap gone_in (set_to.other q apart) ∙ was)
+
+  -- with one object more, a whole run is gone
+  pub covered_set : (a b : ℕ) → ((x : ℕ) → a ≤ x → x < place_of k → gone_in (fact_at m (at_place k x)) ≡ true) → ((x : ℕ) → place_of k < x → x ≤ b → gone_in (fact_at m (at_place k x)) ≡ true)
+      → (x : ℕ) → a ≤ x → x ≤ b → gone_in (fact_at n (at_place k x)) ≡ true
+  covered_set a b before after x from to =
+      by_ranked _ _ _ (nat_cmp x (place_of k)) (ranked x (place_of k) (nat_cmp x (place_of k)) refl)
+      (λ _ below. gone_grows (at_place k x) (before x from below))
+      (λ _ same. ap (λ y. gone_in (fact_at n (at_place k y))) same ∙ ap (λ y. gone_in (fact_at n y)) (at_itself k) ∙ ap gone_in set_to.here ∙ gone)
+      (λ _ above. gone_grows (at_place k x) (after x above to))
+
+  -- an object that knows a run which is gone
+  pub sound_run : (run : Run) → w.gone ≡ Some run → IsSound m → ((x : ℕ) → run.first ≤ x → x ≤ run.last → gone_in (fact_at n (at_place k x)) ≡ true)
+      → run.first ≤ place_of k → place_of k ≤ run.last → IsSound n
+  sound_run run is sound covered low high =
+      let all : Claims n k run = record { before = λ x from to. covered x from (omega arith); after = λ x from to. covered x (omega arith) to } in
+      sound_set m n k w set_to sound (λ _. gone) (λ r knows. subst (Claims n k) (let e : Some run ≡ Some r = sym is ∙ knows in cc) all)
+
+-- of what is seen alike, the numbers and what is gone are alike
+number_seen : (a : Option Fact) → option_map (λ f. f.number) a ≡ option_map (λ s. s.0) (seen_in a)
+number_seen None = refl
+number_seen (Some f) = refl
+
+abbrev flag_of : Option (ℕ × Bool) → Bool
+flag_of None = false
+flag_of (Some s) = s.1
+
+gone_seen : (a : Option Fact) → gone_in a ≡ flag_of (seen_in a)
+gone_seen None = refl
+gone_seen (Some f) = refl
+
+now_number : (s : Option (ℕ × Bool)) → option_map (λ s. s.0) (gone_now s) ≡ option_map (λ s. s.0) s
+now_number None = refl
+now_number (Some s) = refl
+
+now_gone : (b : Option Fact) → is_some b ≡ true → flag_of (gone_now (seen_in b)) ≡ true
+now_gone None there = cc
+now_gone (Some f) there = refl
+
+pub same_gone : (a b : Option Fact) → seen_in a ≡ seen_in b → gone_in a ≡ gone_in b
+same_gone a b same = gone_seen a ∙ ap flag_of same ∙ sym (gone_seen b)
+
+pub same_number : (a b : Option Fact) → seen_in a ≡ seen_in b → option_map (λ f. f.number) a ≡ option_map (λ f. f.number) b
+same_number a b same = number_seen a ∙ ap (option_map (λ s. s.0)) same ∙ sym (number_seen b)
+
+module _ (m n : tree.BTreeMap Object Fact) (k : Object) (others : (q : Object) → same_object q k ≡ false → seen_in (fact_at n q) ≡ seen_in (fact_at m q))
+    (here : seen_in (fact_at n k) ≡ gone_now (seen_in (fact_at m k))) where
+  pub numbers_marked : numbers_of n.entries ≡ numbers_of m.entries
+  numbers_marked = map.same_map objects_total exact_objects _ _ (λ q.
+      get-numbers_of n q
+      ∙ by_object (λ q. option_map (λ f. f.number) (fact_at n q) ≡ option_map (λ f. f.number) (fact_at m q)) k
+      (number_seen (fact_at n k) ∙ ap (option_map (λ s. s.0)) here ∙ now_number (seen_in (fact_at m k)) ∙ sym (number_seen (fact_at m k)))
+      (λ q apart. same_number _ _ (others q apart)) q
+      ∙ sym (get-numbers_of m q))
+
+  pub gone_marked : is_some (fact_at m k) ≡ true → (q : Object) → set.contains (gone_of n.entries) q ≡ (set.contains (gone_of m.entries) q || same_object q k)
+  gone_marked there q =
+      contains-gone_of n q
+      ∙ by_object (λ q. gone_in (fact_at n q) ≡ (gone_in (fact_at m q) || same_object q k)) k
+      (gone_seen (fact_at n k) ∙ ap flag_of here ∙ now_gone (fact_at m k) there ∙ sym (or_true (gone_in (fact_at m k))) ∙ ap (λ b. gone_in (fact_at m k) || b) (sym (same_itself k)))
+      (λ q apart. same_gone _ _ (others q apart) ∙ sym (or_false (gone_in (fact_at m q))) ∙ ap (λ b. gone_in (fact_at m q) || b) (sym apart)) q
+      ∙ ap (λ b. b || same_object q k) (sym (contains-gone_of m q))
+
+-- what the tree says of being gone is what is seen
+pub gone_seen_at : (m : tree.BTreeMap Object Fact) (q : Object) → gone_in (fact_at m q) ≡ true → set.contains (gone_of m.entries) q ≡ true
+gone_seen_at m q gone = contains-gone_of m q ∙ gone

@@ -6,6 +6,8 @@ use Rattle.std.proofs.lemmas.List.Elements.{filter-append}
 use Rattle.ss_base.specs.declared.object.Object.{Object}
 use Rattle.pins_counts.specs.declared.kind.Ended.{Ended}
 use Rattle.pins_counts.specs.declared.kind.Kind.{Kind}
+use Rattle.pins_counts.specs.declared.kind.Kind.TheVariants.{Containers, Manifests}
+use Rattle.pins_counts.specs.Facts.{place_of, at_place}
 use Rattle.pins_counts.specs.Counts.{object_of, objects_of, objects_from}
 
 -- what is found, with the dead ones of what is left, is what there is to find
@@ -59,3 +61,30 @@ pub from_next : (kind : Kind) (sessions : List (Option Ended)) (i : ℕ) (d next
     → objects_from kind i (drop i sessions) ≡ objects_from kind i (next ∷ drop (i + 1) sessions)
 from_next kind sessions i d next below is =
     ap (objects_from kind i) (drop-cons sessions i d below ∙ (λ j. is j ∷ drop (sym (add-one i) j) sessions))
+
+pub place_in : (kind : Kind) (session next n : ℕ) → at_place (object_of kind session next) n ≡ object_of kind session n
+place_in Containers session next n = refl
+place_in Manifests session next n = refl
+
+pub own_place : (kind : Kind) (session next : ℕ) → place_of (object_of kind session next) ≡ next
+own_place Containers session next = refl
+own_place Manifests session next = refl
+
+-- objects that are not dead are passed
+pub passed : (idle : Object → Bool) (kind : Kind) (session count d a : ℕ) → a + d ≤ count → ((n : ℕ) → a ≤ n → n < a + d → idle (object_of kind session n) ≡ false)
+    → filter idle (objects_of kind session a (count - a)) ≡ filter idle (objects_of kind session (a + d) (count - (a + d)))
+passed idle kind session count zero a within none = let e : a ≡ a + 0 = omega arith in ap (λ x. filter idle (objects_of kind session x (count - x))) e
+passed idle kind session count (suc d) a within none =
+    let e : (a + 1) + d ≡ a + suc d = omega arith in
+    let here : idle (object_of kind session a) ≡ false = none a (omega arith) (omega arith) in
+    ap (filter idle) (first_of kind session a count (omega arith))
+    ∙ ap (λ b. cond b (object_of kind session a ∷ filter idle (objects_of kind session (a + 1) (count - (a + 1)))) (filter idle (objects_of kind session (a + 1) (count - (a + 1))))) here
+    ∙ passed idle kind session count d (a + 1) (omega arith) (λ n from to. none n (omega arith) (omega arith))
+    ∙ ap (λ x. filter idle (objects_of kind session x (count - x))) e
+
+-- and so are those up to a number
+pub passed_to : (idle : Object → Bool) (kind : Kind) (session count a b : ℕ) → a ≤ b → b ≤ count → ((n : ℕ) → a ≤ n → n < b → idle (object_of kind session n) ≡ false)
+    → filter idle (objects_of kind session a (count - a)) ≡ filter idle (objects_of kind session b (count - b))
+passed_to idle kind session count a b low high none =
+    let e : a + (b - a) ≡ b = omega arith in
+    passed idle kind session count (b - a) a (omega arith) (λ n from to. none n from (omega arith)) ∙ ap (λ x. filter idle (objects_of kind session x (count - x))) e

@@ -11,6 +11,7 @@ ghost use Rattle.pins_counts.specs.Counts.{number, use_number, hold_number, is_r
 
 use crate::fact::{Fact, fact_of, make_fact, set_fact};
 use crate::kind::{Ended, Kind};
+use crate::run::{after_gone, set_gone};
 use ss_base::{ContainerId, ManifestId, Memory, Object};
 use std::alloc::Global;
 use std::collections::BTreeMap;
@@ -32,7 +33,7 @@ impl Model for Counts {
     ghost use Rattle.std.specs.Prelude.{◌+◌, ◌≤◌, ◌<◌, ◌^◌, vec_len, vec_capacity};
     ghost use Rattle.pins_counts.specs.Counts.{Counted};
     ghost use Rattle.pins_counts.specs.Codes.{counted_code};
-    ghost use Rattle.pins_counts.specs.Facts.{numbers_of, gone_of};
+    ghost use Rattle.pins_counts.specs.Facts.{numbers_of, gone_of, IsSound};
 
     ghost Value = { Counted };
 
@@ -40,7 +41,7 @@ impl Model for Counts {
 
     ghost view = { λ c. record { numbers = numbers_of c.facts.entries; sessions = c.sessions.items; gone = gone_of c.facts.entries; room = c.room } };
 
-    ghost invariant = { λ c. (vec_len c.sessions + c.room ≤ vec_capacity c.sessions) × (vec_len c.sessions + c.room < 2 ^ 32) };
+    ghost invariant = { λ c. (vec_len c.sessions + c.room ≤ vec_capacity c.sessions) × (vec_len c.sessions + c.room < 2 ^ 32) × IsSound c.facts };
 }
 
 impl Counts {
@@ -249,8 +250,7 @@ impl Counts {
         ensures gone { (q : Stored) → is_gone self.new q ≡ (is_gone self.old q || same_object q object) }
         ensures rest { self.new ≡ record self.old { gone = self.new.gone } }
     {
-        let fact = fact_of(&self.facts, object);
-        set_fact(&mut self.facts, object, Fact { gone: true, ..fact });
+        set_gone(&mut self.facts, object);
     }
 
     pub(crate) fn number_of(&self, object: Object) -> u32
@@ -264,7 +264,10 @@ impl Counts {
         ensures { result ≡ is_idle self.now object }
     {
         let fact = fact_of(&self.facts, object);
-        !fact.gone && fact.number == 0
+        match fact.gone {
+            Some(_) => false,
+            None => fact.number == 0,
+        }
     }
 
     // Adds what is dead of one kind, until `limit` are found.
@@ -298,7 +301,7 @@ impl Counts {
             if self.is_idle(object) {
                 found.push(object)?;
             }
-            next += 1;
+            next = after_gone(&self.facts, object, count);
         }
         Ok(())
     }

@@ -6,15 +6,23 @@ ghost use Rattle.pins_counts.specs.Facts.{fact_at, fact_or_nothing, OneSet};
 use ss_base::{Memory, Object};
 use std::collections::BTreeMap;
 
+// Of one kind and session, the objects from one number to another.
+#[derive(Clone, Copy)]
+pub(crate) struct Run {
+    pub(crate) first: u32,
+    pub(crate) last: u32,
+}
+
+// An object that is gone knows a run of neighbours that are, so that a walk need not visit them.
 #[derive(Clone, Copy)]
 pub(crate) struct Fact {
     pub(crate) number: u32,
-    pub(crate) gone: bool,
+    pub(crate) gone: Option<Run>,
 }
 
 pub(crate) const NOTHING: Fact = Fact {
     number: 0,
-    gone: false,
+    gone: None,
 };
 
 // What is kept of the object, where there is room for it.

@@ -5,6 +5,7 @@
 mod counts;
 mod fact;
 mod kind;
+mod run;
 
 pub use counts::Counts;
 pub use kind::Ended;

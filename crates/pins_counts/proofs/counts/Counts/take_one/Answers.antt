@@ -1,7 +1,7 @@
 use Rattle.std.proofs.Common.{rules, ◌≡◌, sym, ◌∙◌, ap, ◌+◌, ◌<◌, ◌-◌, subst, arith}
 use Rattle.pins_counts.specs.Counts.{number, is_ready}
 use Rattle.pins_counts.specs.Facts.{numbers_of, is_gone_fact, fact_at}
-use Rattle.pins_counts.proofs.FactLaws.{number_taken, ready_kept, gone_kept, room_for, number_here, number_of_nothing, gone_of_nothing}
+use Rattle.pins_counts.proofs.FactLaws.{sound_kept, run_of_nothing, number_taken, ready_kept, gone_kept, room_for, number_here, number_of_nothing, gone_of_nothing}
 use Rattle.pins_counts.proofs.counts.Counts.take_one.Goals as goal
 
 pub overflow_sub-fact : goal.overflow_sub-fact
@@ -36,3 +36,9 @@ returns-clause-rest c =
     let same = ap is_gone_fact c.fact_of-fact.ensures ∙ gone_of_nothing (fact_at m k) in
     let gone = gone_kept m c.set_fact.new.facts k _ c.set_fact.ensures same ∙ ap (λ v. v.gone) c.self.view_is in
     λ i. record { numbers = numbers_of c.set_fact.new.facts.entries; sessions = (c.self.view_is i).sessions; gone = gone i; room = (c.self.view_is i).room }
+
+pub invariant_of-self : goal.invariant_of-self
+invariant_of-self c =
+    let m = c.self.inside.facts in
+    let same = ap (λ f. f.gone) c.fact_of-fact.ensures ∙ run_of_nothing (fact_at m c.args.object) in
+    (c.self.invariant.0, c.self.invariant.1, sound_kept m c.set_fact.new.facts c.args.object _ c.set_fact.ensures c.self.invariant.2 same)
