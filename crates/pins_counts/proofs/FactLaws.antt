@@ -101,10 +101,6 @@ one_set m n k w updates =
       other = λ q apart. u.2 q ((eq_by_cmp_equiv objects_total).symm k q ∙ apart);
     }
 
--- what a look-up answers
-pub found_at : (m : tree.BTreeMap Object Fact) (k : Object) (found : Option Fact) → found ≡ tree.get derived m k → found ≡ fact_at m k
-found_at m k found is = is ∙ ap (λ R. tree.get R m k) derived-object_cmp
-
 -- what holds at one object and at each other holds at all
 pub by_object : (P : Object → Type 0) (k : Object) → P k → ((q : Object) → same_object q k ≡ false → P q) → (q : Object) → P q
 by_object P k here other q = elim (one_or_other q k) as (λ _. P q) [
@@ -168,30 +164,12 @@ module _ (m n : tree.BTreeMap Object Fact) (k : Object) (w : Fact) (set_to : One
       ∙ by_object (λ q. number_in (fact_at n q) ≡ number_in (fact_at m q)) k (ap number_in set_to.here ∙ same) (λ q apart. ap number_in (set_to.other q apart)) q
       ∙ sym (number_is m q)
 
-  -- and so does the map, where the object was there
-  pub numbers_kept : (f : Fact) → fact_at m k ≡ Some f → w.number ≡ f.number → numbers_of n.entries ≡ numbers_of m.entries
-  numbers_kept f there same = map.same_map objects_total exact_objects _ _ (λ q.
-      get-numbers_of n q
-      ∙ by_object (λ q. option_map (λ f. f.number) (fact_at n q) ≡ option_map (λ f. f.number) (fact_at m q)) k
-      (ap (option_map (λ f. f.number)) set_to.here ∙ ap Some same ∙ ap (option_map (λ f. f.number)) (sym there))
-      (λ q apart. ap (option_map (λ f. f.number)) (set_to.other q apart)) q
-      ∙ sym (get-numbers_of m q))
-
   -- what is gone stays where the one is as before
   pub gone_kept : is_gone_fact w ≡ gone_in (fact_at m k) → gone_of n.entries ≡ gone_of m.entries
   gone_kept same = set.same_set objects_total exact_objects _ _ (λ q.
       contains-gone_of n q
       ∙ by_object (λ q. gone_in (fact_at n q) ≡ gone_in (fact_at m q)) k (ap gone_in set_to.here ∙ same) (λ q apart. ap gone_in (set_to.other q apart)) q
       ∙ sym (contains-gone_of m q))
-
-  -- one object more is gone
-  pub gone_added : is_gone_fact w ≡ true → (q : Object) → set.contains (gone_of n.entries) q ≡ (set.contains (gone_of m.entries) q || same_object q k)
-  gone_added gone q =
-      contains-gone_of n q
-      ∙ by_object (λ q. gone_in (fact_at n q) ≡ (gone_in (fact_at m q) || same_object q k)) k
-      (ap gone_in set_to.here ∙ gone ∙ sym (or_true (gone_in (fact_at m k))) ∙ ap (λ b. gone_in (fact_at m k) || b) (sym (same_itself k)))
-      (λ q apart. ap gone_in (set_to.other q apart) ∙ sym (or_false (gone_in (fact_at m q))) ∙ ap (λ b. gone_in (fact_at m q) || b) (sym apart)) q
-      ∙ ap (λ b. b || same_object q k) (sym (contains-gone_of m q))
 
   -- one object more is ready
   pub ready_made : (q : Object) → map.contains_key (numbers_of n.entries) q ≡ (same_object q k || map.contains_key (numbers_of m.entries) q)
@@ -206,11 +184,6 @@ module _ (m n : tree.BTreeMap Object Fact) (k : Object) (w : Fact) (set_to : One
 pub nothing_there : (found : Option Fact) → is_some found ≡ false → fact_or_nothing found ≡ nothing
 nothing_there None absent = refl
 nothing_there (Some f) absent = cc
-
--- what is kept, where there is room
-pub something_there : (found : Option Fact) → is_some found ≡ true → found ≡ Some (fact_or_nothing found)
-something_there None there = cc
-something_there (Some f) there = refl
 
 pub number_of_nothing : (found : Option Fact) → (fact_or_nothing found).number ≡ number_in found
 number_of_nothing None = refl
