@@ -1,14 +1,11 @@
 -- How the dead objects are found: a walk over numbers and one over sessions.
-use Rattle.std.proofs.Common.{◌≡◌, refl, sym, ◌∙◌, ap, subst, ℕ, zero, suc, ◌+◌, ◌-◌, ◌<◌, ◌≤◌, List, [], ◌∷◌, ◌++◌, take, drop, length, filter, Bool, true, false, cond, Option, arith, append_assoc, get_or, add-one}
-use Rattle.std.proofs.Math.Seq.{drop-cons}
+use Rattle.std.proofs.Common.{◌≡◌, refl, sym, ◌∙◌, ap, ℕ, zero, suc, ◌+◌, ◌-◌, ◌<◌, ◌≤◌, List, [], ◌∷◌, ◌++◌, take, length, filter, Bool, true, false, cond, arith, append_assoc}
 use Rattle.std.proofs.lemmas.List.{length-append}
-use Rattle.std.proofs.lemmas.List.Elements.{filter-append}
 use Rattle.ss_base.specs.declared.object.Object.{Object}
-use Rattle.pins_counts.specs.declared.kind.Ended.{Ended}
 use Rattle.pins_counts.specs.declared.kind.Kind.{Kind}
 use Rattle.pins_counts.specs.declared.kind.Kind.TheVariants.{Containers, Manifests}
 use Rattle.pins_counts.specs.Facts.{place_of, at_place}
-use Rattle.pins_counts.specs.Counts.{object_of, objects_of, objects_from}
+use Rattle.pins_counts.specs.Counts.{object_of, objects_of}
 
 -- what is found, with the dead ones of what is left, is what there is to find
 pub record Finds (limit : ℕ) (found left goal : List Object) : Type 0 where
@@ -35,32 +32,6 @@ module _ (limit : ℕ) (idle : Object → Bool) where
     small = so.small;
     same = ap (take limit) (ap (λ b. found ++ cond b (x ∷ filter idle xs) (filter idle xs)) (sym is)) ∙ so.same;
   }
-
-take_again : (n : ℕ) (xs ys : List Object) → take n (take n xs ++ ys) ≡ take n (xs ++ ys)
-take_again zero xs ys = refl
-take_again (suc n) [] ys = refl
-take_again (suc n) (x ∷ xs) ys = ap (λ zs. x ∷ zs) (take_again n xs ys)
-
-length_take : (n : ℕ) (xs : List Object) → length (take n xs) ≤ n
-length_take zero xs = omega arith
-length_take (suc n) [] = omega arith
-length_take (suc n) (x ∷ xs) = omega (arith, length_take n xs)
-
--- what a session adds is found
-pub finds_many : (limit : ℕ) (idle : Object → Bool) (found more xs ys goal : List Object) → more ≡ take limit (found ++ filter idle xs)
-    → Finds limit found (filter idle (xs ++ ys)) goal → Finds limit more (filter idle ys) goal
-finds_many limit idle found more xs ys goal is so = record {
-  small = subst (λ zs. length zs ≤ limit) (sym is) (length_take limit (found ++ filter idle xs));
-  same =
-      ap (λ zs. take limit (zs ++ filter idle ys)) is ∙ take_again limit (found ++ filter idle xs) (filter idle ys)
-      ∙ ap (take limit) (append_assoc found (filter idle xs) (filter idle ys) ∙ ap (λ zs. found ++ zs) (sym (filter-append idle xs ys))) ∙ so.same;
-}
-
--- the objects of the sessions from the next one on
-pub from_next : (kind : Kind) (sessions : List (Option Ended)) (i : ℕ) (d next : Option Ended) → i < length sessions → get_or sessions i d ≡ next
-    → objects_from kind i (drop i sessions) ≡ objects_from kind i (next ∷ drop (i + 1) sessions)
-from_next kind sessions i d next below is =
-    ap (objects_from kind i) (drop-cons sessions i d below ∙ (λ j. is j ∷ drop (sym (add-one i) j) sessions))
 
 pub place_in : (kind : Kind) (session next n : ℕ) → at_place (object_of kind session next) n ≡ object_of kind session n
 place_in Containers session next n = refl
