@@ -35,4 +35,6 @@ pub use standing_scan::standing;
 pub use totals_scan::totals;
 
 #[cfg(test)]
+mod legal_tests;
+#[cfg(test)]
 mod tests;
