@@ -3,7 +3,7 @@ use Rattle.std.proofs.Common.{◌≡◌, ℕ, ◌≤◌, ◌<◌, ◌+◌, get_o
 use Rattle.history.specs.declared.entry.Entry.{Entry}
 use Rattle.history.specs.declared.entry.Point.{Point}
 use Rattle.history.specs.declared.entry.Point.TheVariants.{Begin, Choose, Commit, Finish, Abort, Delete, Look, Done, Reclaim, Stat}
-use Rattle.std.specs.Cmp.Lexicographic.{pointwise, as_long}
+use Rattle.std.specs.Cmp.Lexicographic.{as_long}
 use Rattle.std.proofs.lemmas.List.{length-take, get_or_default}
 use Rattle.history.specs.Need.{same_object, erasable}
 use Rattle.history.specs.TotalsOf.{objects_named}

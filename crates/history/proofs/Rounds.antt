@@ -1,7 +1,6 @@
 -- The rounds of the greedy choice.
 use Rattle.std.proofs.Common.{◌≡◌, ℕ, zero, suc, List, [], ◌∷◌, Option, Some, None, refl, ap}
 use Rattle.std.specs.Option.{option_map_or}
-use Rattle.ss_base.specs.declared.ids.ManifestId.{ManifestId}
 use Rattle.ss_base.specs.declared.ids.Standing.{Standing}
 use Rattle.ss_base.specs.Champions.{best, uncovered, champions}
 

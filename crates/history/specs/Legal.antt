@@ -6,9 +6,8 @@ use Rattle.std.specs.Cmp.Lexicographic.{pointwise}
 use Rattle.ss_base.specs.declared.ids.ContainerId.{ContainerId}
 use Rattle.ss_base.specs.declared.ids.ManifestId.{ManifestId}
 use Rattle.ss_base.specs.declared.name.Name.{Name}
-use Rattle.ss_base.specs.declared.object.Object.{Object}
 use Rattle.ss_base.specs.Champions.{same_manifest}
-use Rattle.hook_sampler.specs.Hooks.{same_name, is_hook}
+use Rattle.hook_sampler.specs.Hooks.{is_hook}
 use Rattle.history.specs.declared.entry.Entry.{Entry}
 use Rattle.history.specs.declared.entry.Seen.{Seen}
 use Rattle.history.specs.declared.entry.Totals.{Totals}
@@ -17,9 +16,9 @@ use Rattle.history.specs.declared.rules.Rules.{Rules}
 use Rattle.history.specs.declared.entry.Point.{Point}
 use Rattle.history.specs.declared.entry.Point.TheVariants.{Begin, Choose, Commit, Finish, Abort, Delete, Look, Done, Reclaim, Stat}
 use Rattle.history.specs.Reading.{are_counts}
-use Rattle.history.specs.Sessions.{session_begun, session_count, reading_begun, reading_count, is_unfinished, is_reading, is_held, retained, is_begun_by, is_looked_by, commits, commits_of, is_pending, pending_champions, has}
+use Rattle.history.specs.Sessions.{session_begun, session_count, reading_begun, reading_count, is_unfinished, is_reading, is_held, retained, is_begun_by, is_looked_by, commits_of, is_pending, pending_champions, has}
 use Rattle.history.specs.StandingList.{has_name, champions_for}
-use Rattle.history.specs.Need.{same_container, same_object, has_container, erasable}
+use Rattle.history.specs.Need.{same_object, has_container, erasable}
 use Rattle.history.specs.TotalsOf.{totals}
 
 -- ---- lists

@@ -1,5 +1,5 @@
 -- Which stored objects a history still needs, and which can be erased (this project's own).
-use Rattle.std.specs.Prelude.{ℕ, Bool, false, ◌==◌, ◌&&◌, ◌||◌, not, List, [], ◌++◌, filter, map, flat_map, Option, option_map}
+use Rattle.std.specs.Prelude.{ℕ, Bool, false, ◌==◌, ◌&&◌, ◌||◌, not, List, ◌++◌, filter, map, flat_map, Option}
 use Rattle.std.specs.List.{list_any, range_with_len}
 use Rattle.std.specs.Option.{option_map_or}
 use Rattle.ss_base.specs.declared.ids.ContainerId.{ContainerId}
@@ -10,7 +10,7 @@ use Rattle.ss_base.specs.Champions.{same_manifest}
 use Rattle.history.specs.declared.entry.Entry.{Entry}
 use Rattle.history.specs.declared.entry.Seen.{Seen}
 use Rattle.history.specs.declared.entry.Point.{Point}
-use Rattle.history.specs.declared.entry.Point.TheVariants.{Begin, Choose, Commit, Finish, Abort, Delete, Look, Done, Reclaim, Stat}
+use Rattle.history.specs.declared.entry.Point.TheVariants.{Commit, Finish, Abort, Reclaim}
 use Rattle.history.specs.Sessions.{sessions, session_count, readings, closes, has, newest, is_unfinished, is_retained, is_reading, commits_of, pending_champions}
 use Rattle.history.specs.StandingList.{has_manifest}
 

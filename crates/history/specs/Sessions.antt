@@ -1,7 +1,7 @@
 -- Sessions and readers of a history (this project's own). Every definition of a legal history reads the entries
 -- backwards: `past` is the list of the entries up to some moment, the newest first, so that in `entry ∷ past` the
 -- entries of `past` are those before `entry`, and there are `length past` of them.
-use Rattle.std.specs.Prelude.{ℕ, Bool, true, false, ◌==◌, ◌&&◌, ◌||◌, not, List, [], length, find, filter_map, count_by, Option, Some, None, is_some, option_map, option_and_then, unwrap_or, if◌then◌else◌}
+use Rattle.std.specs.Prelude.{ℕ, Bool, false, ◌==◌, ◌&&◌, ◌||◌, not, List, [], find, filter_map, count_by, Option, Some, None, is_some, option_map, option_and_then, unwrap_or, if◌then◌else◌}
 use Rattle.std.specs.List.{list_any}
 use Rattle.std.specs.Str.{bytes_eq}
 use Rattle.ss_base.specs.declared.ids.ManifestId.{ManifestId}
@@ -9,7 +9,7 @@ use Rattle.ss_base.specs.declared.name.Name.{Name}
 use Rattle.history.specs.declared.entry.Entry.{Entry}
 use Rattle.history.specs.declared.entry.Seen.{Seen}
 use Rattle.history.specs.declared.entry.Point.{Point}
-use Rattle.history.specs.declared.entry.Point.TheVariants.{Begin, Choose, Commit, Finish, Abort, Delete, Look, Done, Reclaim, Stat}
+use Rattle.history.specs.declared.entry.Point.TheVariants.{Begin, Choose, Commit, Finish, Abort, Delete, Look, Done}
 
 abbrev pub is_number : ℕ → Option ℕ → Bool
 is_number n None = false

@@ -1,6 +1,6 @@
 -- Which manifests stand at a hook, the most recently used first (FAST 2009 bounds the list of a hook; the rule on
 -- the order is this project's own).
-use Rattle.std.specs.Prelude.{ℕ, Bool, ◌==◌, not, List, [], ◌∷◌, ◌++◌, length, take, filter, find, map, filter_map, Option, Some, None, if◌then◌else◌}
+use Rattle.std.specs.Prelude.{ℕ, Bool, ◌==◌, not, List, [], ◌∷◌, ◌++◌, length, take, filter, find, map, filter_map, Option, Some, if◌then◌else◌}
 use Rattle.std.specs.List.{list_any}
 use Rattle.ss_base.specs.declared.ids.ManifestId.{ManifestId}
 use Rattle.ss_base.specs.declared.ids.Standing.{Standing}
@@ -9,7 +9,7 @@ use Rattle.ss_base.specs.Champions.{same_manifest, champions}
 use Rattle.hook_sampler.specs.Hooks.{same_name}
 use Rattle.history.specs.declared.entry.Entry.{Entry}
 use Rattle.history.specs.declared.entry.Point.{Point}
-use Rattle.history.specs.declared.entry.Point.TheVariants.{Begin, Choose, Commit, Finish, Abort, Delete, Look, Done, Reclaim, Stat}
+use Rattle.history.specs.declared.entry.Point.TheVariants.{Choose, Commit, Abort, Delete}
 use Rattle.history.specs.Sessions.{last_hooks}
 
 -- whether the name is one of the names

@@ -4,7 +4,7 @@ use Rattle.std.specs.Option.{option_map_or}
 use Rattle.history.specs.declared.entry.Entry.{Entry}
 use Rattle.history.specs.declared.entry.Totals.{Totals}
 use Rattle.history.specs.declared.entry.Point.{Point}
-use Rattle.history.specs.declared.entry.Point.TheVariants.{Begin, Choose, Commit, Finish, Abort, Delete, Look, Done, Reclaim, Stat}
+use Rattle.history.specs.declared.entry.Point.TheVariants.{Commit, Reclaim}
 use Rattle.history.specs.Sessions.{session_begun, is_retained}
 use Rattle.history.specs.Need.{containers_closed}
 

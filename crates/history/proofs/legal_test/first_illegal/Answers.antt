@@ -1,4 +1,4 @@
-use Rattle.std.proofs.Common.{◌≡◌, ◌+◌, Bool, true, false, ◌&&◌, List, ◌∷◌, take, reverse, refl, sym, ap, ◌∙◌, ◌<◌, ◌≤◌, ℕ, get_or, length, subst, arith}
+use Rattle.std.proofs.Common.{◌≡◌, ◌+◌, true, false, ◌∷◌, take, reverse, refl, sym, ap, ◌∙◌, ◌<◌, ◌≤◌, subst, arith}
 use Rattle.history.specs.declared.entry.Entry.{Entry}
 use Rattle.history.specs.Legal.{is_legal, is_allowed, is_within}
 use Rattle.history.specs.TotalsOf.{objects_named}

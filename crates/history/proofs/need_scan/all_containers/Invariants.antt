@@ -1,6 +1,6 @@
 use Rattle.std.proofs.Common.{◌≡◌, reverse, filter}
 use Rattle.std.specs.List.{flat_map, range_with_len}
-use Rattle.history.specs.Need.{is_erasable, containers_below, manifests_below, known_containers, known_manifests}
+use Rattle.history.specs.Need.{is_erasable, containers_below, known_containers}
 use Rattle.history.proofs.need_scan.all_containers.Given as goal
 
 abbrev pub invariant-loop-session : goal.invariant-loop-session

@@ -1,9 +1,9 @@
-use Rattle.std.proofs.Common.{◌≡◌, ◌+◌, ℕ, Bool, true, false, cond, [], ◌∷◌, ◌++◌, reverse, filter, sym, ap, ◌∙◌, Vec, Global, arith}
+use Rattle.std.proofs.Common.{◌≡◌, ◌+◌, ℕ, Bool, true, cond, [], ◌∷◌, ◌++◌, reverse, filter, sym, ap, ◌∙◌, Vec, Global, arith}
 use Rattle.std.proofs.lemmas.List.{append-nil}
 use Rattle.std.proofs.lemmas.List.FromFn.{filter_of_map_range_with_len_more}
 use Rattle.ss_base.specs.declared.object.Object.{Object}
-use Rattle.ss_base.specs.declared.object.Object.TheVariants.{Container, Manifest}
-use Rattle.history.specs.Need.{is_erasable, containers_below, manifests_below}
+use Rattle.ss_base.specs.declared.object.Object.TheVariants.{Container}
+use Rattle.history.specs.Need.{is_erasable, containers_below}
 use Rattle.history.proofs.need_scan.erasable_containers.Goals.{then-is_erasable+in_ok-push, else-is_erasable}
 use Rattle.history.proofs.need_scan.erasable_containers.Goals as goal
 

@@ -1,7 +1,5 @@
-use Rattle.std.proofs.Common.{◌≡◌, ◌≤◌, ◌*◌, ◌^◌, take, reverse, filter}
-use Rattle.std.specs.List.{count_by, sum_by}
-use Rattle.history.specs.declared.entry.Entry.{Entry}
-use Rattle.history.specs.Need.{is_erasable, containers_below, manifests_below}
+use Rattle.std.proofs.Common.{◌≡◌, reverse, filter}
+use Rattle.history.specs.Need.{is_erasable, manifests_below}
 use Rattle.history.proofs.need_scan.erasable_manifests.Given as goal
 
 abbrev pub invariant-loop-seq : goal.invariant-loop-seq

@@ -1,4 +1,4 @@
-use Rattle.std.proofs.Common.{◌≡◌, ◌+◌, ◌∷◌, take, reverse, get_or, length, refl, sym, ap, ◌∙◌, arith}
+use Rattle.std.proofs.Common.{◌≡◌, ◌+◌, ◌∷◌, take, reverse, sym, ap, ◌∙◌}
 use Rattle.history.specs.declared.entry.Entry.{Entry}
 use Rattle.history.specs.StandingList.{standing, standing_after}
 use Rattle.history.proofs.Scans.{reverse_more}

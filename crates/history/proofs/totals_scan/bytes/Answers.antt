@@ -1,10 +1,9 @@
-use Rattle.std.proofs.Common.{◌≡◌, take, reverse, sym, ap, ◌∙◌}
-use Rattle.std.specs.List.{count_by, sum_by}
+use Rattle.std.proofs.Common.{reverse, sym, ap, ◌∙◌}
+use Rattle.std.specs.List.{sum_by}
 use Rattle.std.proofs.lemmas.List.{take_all}
 use Rattle.history.specs.declared.entry.Entry.{Entry}
-use Rattle.history.specs.TotalsOf.{bytes_retained, bytes_stored, objects_named, stream_began}
-use Rattle.history.specs.Need.{containers_closed}
-use Rattle.history.proofs.Scans.{sum_by-reverse, count_by-reverse}
+use Rattle.history.specs.TotalsOf.{bytes_retained}
+use Rattle.history.proofs.Scans.{sum_by-reverse}
 use Rattle.history.proofs.totals_scan.bytes.Goals as goal
 
 pub returns : goal.returns

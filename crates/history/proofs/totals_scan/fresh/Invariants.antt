@@ -1,8 +1,7 @@
-use Rattle.std.proofs.Common.{◌≡◌, ◌≤◌, ◌*◌, ◌^◌, take, reverse, filter}
-use Rattle.std.specs.List.{count_by, sum_by}
+use Rattle.std.proofs.Common.{◌≡◌, ◌≤◌, ◌*◌, ◌^◌, take}
+use Rattle.std.specs.List.{sum_by}
 use Rattle.history.specs.declared.entry.Entry.{Entry}
-use Rattle.history.specs.TotalsOf.{bytes_retained, bytes_stored, objects_named, stream_began}
-use Rattle.history.specs.Need.{containers_closed}
+use Rattle.history.specs.TotalsOf.{bytes_stored}
 use Rattle.history.proofs.totals_scan.fresh.Given as goal
 
 abbrev pub invariant-loop-entry : goal.invariant-loop-entry
