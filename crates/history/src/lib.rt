@@ -37,4 +37,6 @@ pub use totals_scan::totals;
 #[cfg(test)]
 mod legal_tests;
 #[cfg(test)]
+mod row_tests;
+#[cfg(test)]
 mod tests;
