@@ -305,3 +305,83 @@ fn limits(rt: HostRuntime) -> Result<(), Fail> {
     }
     Ok(())
 }
+
+#[test]
+fn hooks_that_are_refused(rt: HostRuntime) -> Result<(), Fail> {
+    let alloc = rt.alloc();
+    let none = Name([128; 32]);
+    for (hooks, illegal) in [([H, G], None), ([H, H], Some(1)), ([H, none], Some(1))] {
+        let mut entries = Vec::new(alloc);
+        begin(&mut entries, 0, b"x")?;
+        choose(alloc, &mut entries, 0, &hooks, &[])?;
+        assert_eq!(rt; found(alloc, &entries, 8, 100)?, illegal);
+    }
+    Ok(())
+}
+
+#[test]
+fn uses_that_are_refused(rt: HostRuntime) -> Result<(), Fail> {
+    let alloc = rt.alloc();
+    let last = ContainerId {
+        session: 0,
+        ordinal: 4_294_967_294,
+    };
+    let past = ContainerId {
+        session: 0,
+        ordinal: 4_294_967_295,
+    };
+    for (used, illegal) in [(last, None), (past, Some(2)), (C10, Some(2))] {
+        let mut entries = Vec::new(alloc);
+        begin(&mut entries, 0, b"x")?;
+        choose(alloc, &mut entries, 0, &[H], &[])?;
+        commit(alloc, &mut entries, M00, used)?;
+        assert_eq!(rt; found(alloc, &entries, 8, 100)?, illegal);
+    }
+    Ok(())
+}
+
+#[test]
+fn totals_that_are_refused(rt: HostRuntime) -> Result<(), Fail> {
+    let alloc = rt.alloc();
+    for (count, illegal) in [(0, None), (1, Some(0))] {
+        let totals = Totals {
+            streams: 0,
+            bytes: 0,
+            fresh: 0,
+            containers: 0,
+            reclaimed: 0,
+            entries: count,
+        };
+        let mut entries = Vec::new(alloc);
+        entries.push(Entry {
+            author: 0,
+            point: Point::Stat { totals },
+        })?;
+        assert_eq!(rt; found(alloc, &entries, 8, 100)?, illegal);
+    }
+    Ok(())
+}
+
+#[test]
+fn readings(rt: HostRuntime) -> Result<(), Fail> {
+    let alloc = rt.alloc();
+    for (reader, author, illegal) in [(0, 5, None), (0, 6, Some(5)), (1, 5, Some(5))] {
+        let mut entries = Vec::new(alloc);
+        backup(alloc, &mut entries, 0, &[H], &[])?;
+        let name = StreamName::new(b"x").ok_or("a stream name")?;
+        let seen = Some(Seen {
+            reader: 0,
+            session: 0,
+        });
+        entries.push(Entry {
+            author: 5,
+            point: Point::Look { name, seen },
+        })?;
+        entries.push(Entry {
+            author,
+            point: Point::Done { reader },
+        })?;
+        assert_eq!(rt; found(alloc, &entries, 8, 100)?, illegal);
+    }
+    Ok(())
+}
