@@ -1,0 +1,4 @@
+mod PathLaws
+mod WordLaws
+mod GrammarLaws
+mod ScriptLaws

@@ -1,0 +1,8 @@
+pub use Rattle.ss_base.specs.StreamName
+pub mod FileName
+pub mod Padded
+pub mod Words
+pub mod Grammar
+pub mod Script
+pub mod Reading
+pub mod Step
