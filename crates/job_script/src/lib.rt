@@ -15,3 +15,6 @@ pub use job::{Job, JobKind};
 pub use laws::one_answer;
 pub use parsing::parse;
 pub use path_text::PathText;
+
+#[cfg(test)]
+mod tests;
