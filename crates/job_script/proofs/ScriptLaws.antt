@@ -1,10 +1,12 @@
 -- Laws of what a script says.
 use Rattle.std.proofs.Common.{◌≡◌, ℕ, ◌+◌, ◌≤◌, ◌<◌, List, [], ◌∷◌, ◌++◌, length, refl, sym, ap, ◌∙◌, subst, arith, append_assoc, length-append}
 use Rattle.std.proofs.lemmas.List.{append-nil}
+use Rattle.std.proofs.lemmas.List.Elements.{All-nil, All-cons, All-same, All-append}
+use Rattle.std.specs.List.{All}
 use Rattle.std.specs.Str.Lines.{lines}
 use Rattle.job_script.specs.declared.job.Job.{Job}
 use Rattle.job_script.specs.declared.fault.ScriptFault.TheVariants.{TooMany}
-use Rattle.job_script.specs.Grammar.{Says, IsOutside}
+use Rattle.job_script.specs.Grammar.{IsJob, Says, IsOutside}
 use Rattle.job_script.specs.Script.{AreJobs, HasJobs, IsFirstBad, HasTooMany, most_jobs}
 use Rattle.job_script.specs.Step.{AddsJobs, IsStoppedBy, IsFront}
 use Rattle.job_script.proofs.GrammarLaws.{Says-one}
@@ -46,6 +48,18 @@ front_full lanes script number place jobs rest line behind front first stopped =
       jobs_are = AreJobs-more lanes front.before line jobs (stopped.0 ∷ []) front.jobs_are stopped.1;
       many = omega (arith, length-append jobs (stopped.0 ∷ []));
     }
+
+said_valid : (lanes : ℕ) (line : List ℕ) (said : List Job) → Says lanes line said → All (IsJob lanes) said
+said_valid lanes line [] says = All-nil (IsJob lanes)
+said_valid lanes line (job ∷ []) says = All-cons (IsJob lanes) job [] says.valid (All-nil (IsJob lanes))
+said_valid lanes line (job ∷ other ∷ more) says = absurd says
+
+-- what lines say are jobs of the run
+pub jobs_valid : (lanes : ℕ) (xs : List (List ℕ)) (a : List Job) → AreJobs lanes xs a → All (IsJob lanes) a
+jobs_valid lanes [] a x = All-same (IsJob lanes) a [] x (All-nil (IsJob lanes))
+jobs_valid lanes (line ∷ xs) a x =
+    All-same (IsJob lanes) a (x.0 ++ x.1) x.2
+    (All-append (IsJob lanes) x.0 x.1 (said_valid lanes line x.0 x.3) (jobs_valid lanes xs x.1 x.4))
 
 -- lines have one list of jobs
 jobs_one : (lanes : ℕ) (xs : List (List ℕ)) (a b : List Job) → AreJobs lanes xs a → AreJobs lanes xs b → a ≡ b

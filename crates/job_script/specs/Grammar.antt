@@ -41,11 +41,15 @@ pub record IsLane (lanes lane : ℕ) : Type 0 where
   pub to : lane ≤ lanes
   pub digit : lane ≤ 9
 
+-- a job of a script: its lane is one of the run, and its names are names
+pub record IsJob (lanes : ℕ) (job : Job) : Type 0 where
+  pub lane : IsLane lanes job.lane
+  pub names : HasNames job.kind
+
 -- words are a job's: its lane, its verb and its names
 pub record AreJobWords (lanes : ℕ) (said : List (List ℕ)) (job : Job) : Type 0 where
   pub words_are : said ≡ lane_word job.lane ∷ verb job.kind ∷ operands job.kind
-  pub lane : IsLane lanes job.lane
-  pub names : HasNames job.kind
+  pub valid : IsJob lanes job
 
 -- no word, or a first one that begins with #
 abbrev pub AreSkipped : List (List ℕ) → Type 0

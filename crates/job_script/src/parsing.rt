@@ -1,5 +1,6 @@
 // The jobs of a script.
-ghost use Rattle.std.specs.Prelude.{◌≡◌, ◌<◌, ◌≤◌, ◌^◌, ◌++◌, ℕ, length, IfOk, IfErr, IsErrOf, OnOk};
+ghost use Rattle.std.specs.Prelude.{◌≡◌, ◌<◌, ◌≤◌, ◌^◌, ◌++◌, ℕ, length, All, IfOk, IfErr, IsErrOf, OnOk};
+ghost use Rattle.job_script.specs.Grammar.{IsJob};
 ghost use Rattle.job_script.specs.Script.{most_jobs, HasJobs, IsFirstBad, HasTooMany};
 ghost use Rattle.job_script.specs.Step.{AddsJobs, IsStoppedBy};
 
@@ -17,6 +18,7 @@ const MAX_JOBS: usize = 4096;
 pub fn parse(alloc: Global, script: &[u8], lanes: u32) -> Result<Vec<Job>, ScriptFault>
     requires { length script.now < 2 ^ 32 }
     ensures jobs { IfOk result (λ jobs. HasJobs lanes script.now jobs.items) }
+    ensures valid { IfOk result (λ jobs. All (IsJob lanes) jobs.items) }
     ensures bad_line { (number : ℕ) → IsErrOf result (ScriptFault.BadLine number) → IsFirstBad lanes script.now number }
     ensures too_many { IsErrOf result ScriptFault.TooMany → HasTooMany lanes script.now }
 {
