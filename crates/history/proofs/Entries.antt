@@ -96,7 +96,7 @@ are_counts-true chunks bytes fresh fresh_bytes are =
     and_from _ _ (le-leb _ _ are.some) (and_from _ _ (le-leb _ _ are.segment) (and_from _ _ (le-leb _ _ are.long)
     (and_from _ _ (le-leb _ _ are.short) (and_from _ _ (le-leb _ _ are.fresh_chunks) (le-leb _ _ are.fresh_part)))))
 
-AreCounts-from : (chunks bytes fresh fresh_bytes : ℕ) → are_counts chunks bytes fresh fresh_bytes ≡ true → AreCounts chunks bytes fresh fresh_bytes
+pub AreCounts-from : (chunks bytes fresh fresh_bytes : ℕ) → are_counts chunks bytes fresh fresh_bytes ≡ true → AreCounts chunks bytes fresh fresh_bytes
 AreCounts-from chunks bytes fresh fresh_bytes e =
     let fifth = leb fresh chunks && leb fresh_bytes bytes in
     let fourth = leb bytes 45875200 && fifth in

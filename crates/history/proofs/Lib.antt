@@ -5,4 +5,4 @@ pub mod Entries
 mod Scans
 mod Objects
 mod Rounds
-mod LegalLaws
+pub mod LegalLaws

@@ -254,6 +254,5 @@ fn scans(rt: HostRuntime) -> Result<(), Fail> {
     assert_eq!(rt; dead.as_slice(), [Object::Manifest(M0)].as_slice());
     let none = totals(alloc, &[])?;
     assert_eq!(rt; none.entries, 0);
-    legal_prefix();
     Ok(())
 }

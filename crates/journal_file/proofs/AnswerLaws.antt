@@ -2,21 +2,21 @@
 use Rattle.std.proofs.Common.{◌≡◌, ℕ, List, [], ◌∷◌, ◌++◌, length, take, refl, sym, ap, subst, ◌∙◌, append_assoc, arith}
 use Rattle.std.specs.List.{AllByRecursion}
 use Rattle.std.proofs.lemmas.List.{length-append, append-nil, take_at}
-use Rattle.std.proofs.lemmas.List.Sums.{sum_by-append}
 use Rattle.history.proofs.Entries.{same_entry, same_entries}
+use Rattle.history.proofs.LegalLaws.{weight-append}
 use Rattle.ss_base.specs.declared.profile.Profile.{Profile}
 use Rattle.history.specs.declared.entry.Entry.{Entry}
 use Rattle.history.specs.Bounds.{IsEntry, Begins}
 use Rattle.history.specs.EntryText.{entry_text, entries_text}
 use Rattle.journal_file.specs.Header.{header_text}
-use Rattle.journal_file.specs.Journal.{entry_weight, FitsJournal, IsJournal, HasNoHeader, IsBadAt}
+use Rattle.journal_file.specs.Journal.{FitsJournal, IsJournal, HasNoHeader, IsBadAt}
 use Rattle.journal_file.proofs.FrontLaws.{same_body, same_header, same_profile, length-header}
 
 -- a front of entries that fit a journal fits it
 FitsJournal-front : (xs ys : List Entry) → FitsJournal (xs ++ ys) → FitsJournal xs
 FitsJournal-front xs ys fits = record {
   count = omega (arith, fits.count, length-append xs ys);
-  weight = omega (arith, fits.weight, sum_by-append entry_weight xs ys);
+  weight = omega (arith, fits.weight, weight-append xs ys);
 }
 
 -- behind these entries there is none that fits a journal

@@ -2,4 +2,5 @@ pub mod Lengths
 pub mod ScanLaws
 pub mod FrontLaws
 pub mod ReadLaws
+pub mod FoundLaws
 pub mod AnswerLaws

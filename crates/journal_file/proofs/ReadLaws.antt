@@ -70,7 +70,7 @@ with_reads-more (Some gave) pieces piece place is =
     ap Some (append_assoc gave (reads_from 0 pieces) (read_of journal_name place 65536 piece ∷ [])
     ∙ ap (λ (l : List Given). gave ++ l) (ap (λ n. reads_from 0 pieces ++ read_of journal_name n 65536 piece ∷ []) (omega (arith, is)) ∙ sym (reads_from-append 0 pieces piece)))
 
-AllByRecursion-snoc : {A : Type 0} (P : A → Type 0) (xs : List A) (x : A) → AllByRecursion P xs → P x → AllByRecursion P (xs ++ x ∷ [])
+pub AllByRecursion-snoc : {A : Type 0} (P : A → Type 0) (xs : List A) (x : A) → AllByRecursion P xs → P x → AllByRecursion P (xs ++ x ∷ [])
 AllByRecursion-snoc P [] x all here = (here, tt)
 AllByRecursion-snoc P (y ∷ ys) x all here = (all.0, AllByRecursion-snoc P ys x all.1 here)
 

@@ -1,29 +1,16 @@
 -- What the bytes of a journal are (this project's own).
-use Rattle.std.specs.Prelude.{◌≡◌, ◌≢◌, ℕ, ◌^◌, ◌≤◌, List, [], ◌∷◌, ◌++◌, length, sum_by}
+use Rattle.std.specs.Prelude.{◌≡◌, ◌≢◌, ℕ, ◌^◌, ◌≤◌, List, [], ◌∷◌, ◌++◌, length}
 use Rattle.std.specs.List.{AllByRecursion}
 use Rattle.ss_base.specs.declared.profile.Profile.{Profile}
 use Rattle.history.specs.declared.entry.Entry.{Entry}
-use Rattle.history.specs.declared.entry.Point.{Point}
-use Rattle.history.specs.declared.entry.Point.TheVariants.{Choose, Commit}
 use Rattle.history.specs.Bounds.{IsEntry, Begins}
 use Rattle.history.specs.EntryText.{entries_text}
+use Rattle.history.specs.Legal.{weight}
 use Rattle.journal_file.specs.Header.{header_text}
 
 -- the header, and the texts of the entries
 abbrev pub journal_text : Profile → List Entry → List ℕ
 journal_text profile entries = header_text profile ++ entries_text entries
-
--- how many names of hooks and containers an entry lists
-abbrev pub point_weight : Point → ℕ
-point_weight (Choose session hooks champions) = length hooks
-point_weight (Commit manifest content text chunks bytes fresh fresh_bytes uses) = length uses
-point_weight _ = 0
-
-abbrev pub entry_weight : Entry → ℕ
-entry_weight entry = point_weight entry.point
-
-abbrev pub weight : List Entry → ℕ
-weight entries = sum_by entry_weight entries
 
 -- a journal has at most 2^20 entries, and they have at most a weight of 2^24
 pub record FitsJournal (entries : List Entry) : Type 0 where

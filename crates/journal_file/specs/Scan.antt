@@ -5,10 +5,11 @@ use Rattle.ss_base.specs.declared.profile.Profile.{Profile}
 use Rattle.history.specs.declared.entry.Entry.{Entry}
 use Rattle.history.specs.Bounds.{IsEntry, Begins}
 use Rattle.history.specs.EntryText.{entries_text}
+use Rattle.history.specs.Legal.{weight}
 use Rattle.journal_file.specs.declared.fault.JournalFault.{JournalFault}
 use Rattle.journal_file.specs.declared.fault.JournalFault.TheVariants.{Shelf, NotStore, BadEntry, Memory}
 use Rattle.journal_file.specs.Header.{header_text}
-use Rattle.journal_file.specs.Journal.{weight, FitsJournal}
+use Rattle.journal_file.specs.Journal.{FitsJournal}
 use Rattle.journal_file.specs.Answer.{IsRefusedBy}
 
 -- the length of the longest text of an entry, that of a choice with the longest lists

@@ -2,7 +2,8 @@
 ghost use Rattle.std.specs.Prelude.{◌≡◌, ◌≤◌, ◌<◌, ℕ, [], ◌∷◌, ◌++◌, length, IfOk, IfErr, IfSome, IfNone, OnOk};
 ghost use Rattle.history.specs.Bounds.{IsEntry, Begins, PointIsWithinBounds};
 ghost use Rattle.history.specs.EntryText.{entry_text, entries_text};
-ghost use Rattle.journal_file.specs.Journal.{point_weight, FitsJournal};
+ghost use Rattle.history.specs.Legal.{point_weight};
+ghost use Rattle.journal_file.specs.Journal.{FitsJournal};
 ghost use Rattle.journal_file.specs.Scan.{longest_entry, AreFound, NoneBegins, NoneWillBegin, IsBadFor, IsBodyFault};
 
 use crate::JournalFault;
@@ -46,6 +47,7 @@ impl Found {
     }
 }
 
+#[tactic(auto, unfolding(history::specs::Legal::point_weight))]
 fn weight_of(point: &Point) -> u32
     requires { PointIsWithinBounds point.now }
     ensures weight { result ≡ point_weight point.now }

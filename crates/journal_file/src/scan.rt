@@ -24,6 +24,7 @@ pub(crate) struct Scan {
 }
 
 impl Scan {
+    #[tactic(auto, using(history::proofs::LegalLaws::weight_none))]
     pub(crate) fn new(alloc: Global) -> Scan
         ensures front { IsFront result }
         ensures text { scan_text result ≡ [] }

@@ -1,0 +1,10 @@
+pub mod Lists
+pub mod SameLaws
+pub mod Allowed
+pub mod SessionLaws
+pub mod NameLaws
+pub mod ChampionLaws
+pub mod StandingLaws
+pub mod NeedLaws
+pub mod ObjectLaws
+pub mod BoundLaws

@@ -1,0 +1,18 @@
+use Rattle.history.specs.StandingList.{standing}
+use Rattle.history_laws.specs.Stands.{MayStand}
+use Rattle.history_laws.proofs.Lists.{All-from_in, in_Contains}
+use Rattle.history_laws.proofs.StandingLaws.{what_stands, stands_once, same_stamps, IsDistinct-from_apart}
+use Rattle.history_laws.proofs.standings.what_stands.Goals as goal
+
+pub returns-clause-committed : goal.returns-clause-committed
+returns-clause-committed c = λ rules past bound hook legal.
+    All-from_in (λ stands. MayStand stands past) (standing bound hook past) (what_stands rules bound hook past legal)
+
+pub returns-clause-once : goal.returns-clause-once
+returns-clause-once c = λ rules past bound hook legal. IsDistinct-from_apart (standing bound hook past) (stands_once rules bound hook past legal)
+
+pub returns-clause-stamps : goal.returns-clause-stamps
+returns-clause-stamps c = λ rules past bound hook other a b legal first second.
+    same_stamps rules past a b legal
+    (what_stands rules bound hook past legal a (in_Contains a (standing bound hook past) first))
+    (what_stands rules bound other past legal b (in_Contains b (standing bound other past) second))

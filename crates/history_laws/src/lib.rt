@@ -1,0 +1,15 @@
+//! What follows from a history's being legal: laws of its definitions, each on a call that runs nothing.
+#![tactic(auto)]
+
+mod entries;
+mod names;
+mod needs;
+mod standings;
+
+pub use entries::{entries_within_bounds, legal_prefix};
+pub use names::one_retained;
+pub use needs::{never_live_again, never_needed_again, never_wanted_again};
+pub use standings::what_stands;
+
+#[cfg(test)]
+mod tests;

@@ -1,0 +1,31 @@
+// What is needed no more stays so.
+ghost use Rattle.std.specs.Prelude.{◌≡◌, ◌++◌, List, true, false, Contains};
+ghost use Rattle.ss_base.specs.declared.ids.ContainerId.{ContainerId};
+ghost use Rattle.ss_base.specs.declared.ids.ManifestId.{ManifestId};
+ghost use Rattle.ss_base.specs.declared.object.Object.{Object};
+ghost use Rattle.history.specs.declared.entry.Entry.{Entry};
+ghost use Rattle.history.specs.declared.rules.Rules.{Rules};
+ghost use Rattle.history.specs.Sessions.{is_closed, has};
+ghost use Rattle.history.specs.Need.{is_live, is_needed, is_wanted, erasable, reclaims};
+ghost use Rattle.history.specs.Legal.{is_legal};
+
+/// A manifest of a closed session that is not live never becomes live again.
+pub fn never_live_again()
+    ensures { (rules : Rules) (newer older : List Entry) (id : ManifestId) → is_legal rules (newer ++ older) ≡ true
+        → is_closed id.session older ≡ true → is_live id older ≡ false → is_live id (newer ++ older) ≡ false }
+{}
+
+/// A container of a closed session that is not needed never becomes needed again.
+pub fn never_needed_again()
+    ensures { (rules : Rules) (newer older : List Entry) (id : ContainerId) → is_legal rules (newer ++ older) ≡ true
+        → is_closed id.session older ≡ true → is_needed id older ≡ false → is_needed id (newer ++ older) ≡ false }
+{}
+
+/// What can be erased at some moment, and what a Reclaim has named, is never wanted again: no such manifest is live and
+/// no such container needed, whatever is recorded later.
+pub fn never_wanted_again()
+    ensures erasable { (rules : Rules) (newer older : List Entry) (object : Object) → is_legal rules (newer ++ older) ≡ true
+        → Contains (erasable older) object → is_wanted object (newer ++ older) ≡ false }
+    ensures reclaimed { (rules : Rules) (past : List Entry) (object : Object) → is_legal rules past ≡ true
+        → has (reclaims object) past ≡ true → is_wanted object past ≡ false }
+{}
