@@ -5,12 +5,8 @@ use Rattle.ss_base.specs.declared.ids.ManifestId.{ManifestId}
 use Rattle.ss_base.specs.declared.ids.Standing.{Standing}
 use Rattle.ss_base.specs.Champions.{same_manifest, stands_in, candidates, is_unbeaten, best, uncovered, champions}
 use Rattle.history_laws.proofs.Lists.{In, in_any, find_in, filter_in, flat_map_in}
+use Rattle.history_laws.proofs.ApartLaws.{Apart}
 use Rattle.history_laws.proofs.SameLaws.{same_itself, same_manifest-true}
-
--- no item has the id of a later one
-abbrev pub Apart : {X : Type 0} → (X → ManifestId) → List X → Type 0
-Apart id_of [] = Unit {0}
-Apart {X} id_of (x ∷ xs) = ((y : X) → In y xs → same_manifest (id_of x) (id_of y) ≡ false) × Apart id_of xs
 
 -- the manifest stands in one of the lists
 pub record StandsAtOne (id : ManifestId) (lists : List (List Standing)) : Type 0 where
@@ -56,7 +52,7 @@ champion_stands (suc n) lists id h = elim (round n lists) [
   ]
 ]
 
-pub champions_apart : (n : ℕ) (lists : List (List Standing)) → Apart (λ id. id) (champions n lists)
+pub champions_apart : (n : ℕ) (lists : List (List Standing)) → Apart same_manifest (champions n lists)
 champions_apart zero lists = rw (no_rounds lists) tt
 champions_apart (suc n) lists = elim (round n lists) [
   | inl none ↦ rw none tt

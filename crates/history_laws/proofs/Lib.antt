@@ -1,10 +1,12 @@
 pub mod Lists
+pub mod ApartLaws
 pub mod SameLaws
 pub mod Allowed
 pub mod SessionLaws
 pub mod NameLaws
 pub mod ChampionLaws
 pub mod StandingLaws
+pub mod OnceLaws
 pub mod NeedLaws
 pub mod ObjectLaws
 pub mod BoundLaws

@@ -8,7 +8,7 @@ mod standings;
 
 pub use entries::{entries_within_bounds, legal_prefix};
 pub use names::one_retained;
-pub use needs::{never_live_again, never_needed_again, never_wanted_again};
+pub use needs::{never_live_again, never_needed_again, never_wanted_again, reclaimed_once};
 pub use standings::what_stands;
 
 #[cfg(test)]

@@ -1,12 +1,13 @@
 // What is needed no more stays so.
-ghost use Rattle.std.specs.Prelude.{◌≡◌, ◌++◌, List, true, false, Contains};
+ghost use Rattle.std.specs.Prelude.{◌≡◌, ◌∷◌, ◌++◌, List, true, false, Contains};
+ghost use Rattle.std.specs.List.{IsDistinct};
 ghost use Rattle.ss_base.specs.declared.ids.ContainerId.{ContainerId};
 ghost use Rattle.ss_base.specs.declared.ids.ManifestId.{ManifestId};
 ghost use Rattle.ss_base.specs.declared.object.Object.{Object};
 ghost use Rattle.history.specs.declared.entry.Entry.{Entry};
 ghost use Rattle.history.specs.declared.rules.Rules.{Rules};
 ghost use Rattle.history.specs.Sessions.{is_closed, has};
-ghost use Rattle.history.specs.Need.{is_live, is_needed, is_wanted, erasable, reclaims};
+ghost use Rattle.history.specs.Need.{same_object, is_live, is_needed, is_wanted, erasable, reclaims};
 ghost use Rattle.history.specs.Legal.{is_legal};
 
 /// A manifest of a closed session that is not live never becomes live again.
@@ -28,4 +29,11 @@ pub fn never_wanted_again()
         → Contains (erasable older) object → is_wanted object (newer ++ older) ≡ false }
     ensures reclaimed { (rules : Rules) (past : List Entry) (object : Object) → is_legal rules past ≡ true
         → has (reclaims object) past ≡ true → is_wanted object past ≡ false }
+{}
+
+/// No object can be erased twice over, and none is given over to be removed twice.
+pub fn reclaimed_once()
+    ensures erasable { (past : List Entry) → IsDistinct same_object (erasable past) }
+    ensures reclaimed { (rules : Rules) (entry : Entry) (past : List Entry) (object : Object) → is_legal rules (entry ∷ past) ≡ true
+        → reclaims object entry.point ≡ true → has (reclaims object) past ≡ false }
 {}

@@ -97,5 +97,6 @@ fn histories_that_the_laws_speak_of(rt: HostRuntime) -> Result<(), Fail> {
     never_live_again();
     never_needed_again();
     never_wanted_again();
+    reclaimed_once();
     Ok(())
 }

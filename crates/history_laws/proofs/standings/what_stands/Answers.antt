@@ -1,7 +1,12 @@
 use Rattle.history.specs.StandingList.{standing}
 use Rattle.history_laws.specs.Stands.{MayStand}
 use Rattle.history_laws.proofs.Lists.{All-from_in, in_Contains}
-use Rattle.history_laws.proofs.StandingLaws.{what_stands, stands_once, same_stamps, IsDistinct-from_apart}
+use mathlib.Core.List.{map}
+use Rattle.ss_base.specs.declared.ids.Standing.{Standing}
+use Rattle.ss_base.specs.Champions.{same_manifest}
+use Rattle.history_laws.proofs.ApartLaws.{apart_map, IsDistinct-from_apart}
+use Rattle.history_laws.proofs.StandingLaws.{what_stands}
+use Rattle.history_laws.proofs.OnceLaws.{same_standing, stands_once, same_stamps}
 use Rattle.history_laws.proofs.standings.what_stands.Goals as goal
 
 pub returns-clause-committed : goal.returns-clause-committed
@@ -9,7 +14,9 @@ returns-clause-committed c = λ rules past bound hook legal.
     All-from_in (λ stands. MayStand stands past) (standing bound hook past) (what_stands rules bound hook past legal)
 
 pub returns-clause-once : goal.returns-clause-once
-returns-clause-once c = λ rules past bound hook legal. IsDistinct-from_apart (standing bound hook past) (stands_once rules bound hook past legal)
+returns-clause-once c = λ rules past bound hook legal.
+    IsDistinct-from_apart same_manifest (map (λ (stands : Standing). stands.id) (standing bound hook past))
+    (apart_map same_standing same_manifest (λ stands. stands.id) (λ a b apart. apart) (standing bound hook past) (stands_once rules bound hook past legal))
 
 pub returns-clause-stamps : goal.returns-clause-stamps
 returns-clause-stamps c = λ rules past bound hook other a b legal first second.
