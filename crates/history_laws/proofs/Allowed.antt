@@ -17,7 +17,7 @@ use Rattle.history.specs.Reading.{are_counts}
 use Rattle.history.specs.StandingList.{champions_for}
 use Rattle.history.specs.Need.{commits_manifest}
 use Rattle.history.specs.Legal.{is_open_to, reply_to_begin, reply_to_look, same_seen, are_hooks, are_uses, is_above_own, are_texts, is_allowed, is_within, may_follow, is_legal}
-use Rattle.history_laws.proofs.Lists.{In, find_in}
+use Rattle.ss_base.proofs.MemberLaws.{In, find_in}
 use Rattle.history_laws.proofs.SameLaws.{same_manifest-true, pointwise-true}
 
 -- an entry that may follow the entries of a legal history

@@ -4,8 +4,8 @@ use Rattle.std.proofs.lemmas.Bool.{both_ways, not-true, false_from_ne_true}
 use Rattle.ss_base.specs.declared.ids.ManifestId.{ManifestId}
 use Rattle.ss_base.specs.declared.ids.Standing.{Standing}
 use Rattle.ss_base.specs.Champions.{same_manifest, stands_in, candidates, is_unbeaten, best, uncovered, champions}
-use Rattle.history_laws.proofs.Lists.{In, in_any, find_in, filter_in, flat_map_in}
-use Rattle.history_laws.proofs.ApartLaws.{Apart}
+use Rattle.ss_base.proofs.MemberLaws.{In, in_any, find_in, filter_in, flat_map_in}
+use Rattle.ss_base.proofs.ApartLaws.{Apart}
 use Rattle.history_laws.proofs.SameLaws.{same_itself, same_manifest-true}
 
 -- the manifest stands in one of the lists

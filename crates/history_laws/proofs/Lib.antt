@@ -1,5 +1,3 @@
-pub mod Lists
-pub mod ApartLaws
 pub mod SameLaws
 pub mod Allowed
 pub mod SessionLaws

@@ -10,7 +10,7 @@ use Rattle.history.specs.declared.entry.Point.{Point}
 use Rattle.history.specs.declared.entry.Point.TheVariants.{Begin}
 use Rattle.history.specs.Sessions.{is_number, session_begun, session_count, session_under, sessions_under, begins, finishes, closes, deletes, has, is_unfinished, is_retained, is_held, retained}
 use Rattle.history.specs.Legal.{is_legal, is_allowed}
-use Rattle.history_laws.proofs.Lists.{In, none_in, none_from, filter_map_in, count_one, count_other, count_at_most, count_none, find_only}
+use Rattle.ss_base.proofs.MemberLaws.{In, none_in, none_from, filter_map_in, count_one, count_other, count_at_most, count_none, find_only}
 use Rattle.history_laws.proofs.Allowed.{IsStep, step, finishes_open, begins_next, begin_says}
 use Rattle.history_laws.proofs.SessionLaws.{has_cases, has_parts, has_from, unfinished_is, unfinished_from, retained_parts, retained_from, begun_below}
 

@@ -18,7 +18,7 @@ use Rattle.history.specs.Sessions.{is_number, session_begun, sessions, begins, c
 use Rattle.history.specs.StandingList.{has_manifest, standing, champions_for}
 use Rattle.history.specs.Need.{same_container, has_container, is_champion, is_being_read, is_pinned, commits_manifest, is_live, uses_live, is_needed}
 use Rattle.history.specs.Legal.{is_legal, is_allowed, lists_use, is_use, is_use_of_any, is_ascending, are_uses}
-use Rattle.history_laws.proofs.Lists.{In, any_in, in_any, all_in, filter_map_in, in_filter_map, map_in}
+use Rattle.ss_base.proofs.MemberLaws.{In, any_in, in_any, all_in, filter_map_in, in_filter_map, map_in}
 use Rattle.history_laws.proofs.Allowed.{IsStep, step, finishes_open, look_says, retained_is, choose_says, commit_says, commits_next}
 use Rattle.history_laws.proofs.SessionLaws.{has_cases, has_parts, has_older, has_from, unfinished_is, unfinished_from, closed_not_unfinished, closed_cases, retained_parts, retained_from, committed_begun}
 use Rattle.history_laws.proofs.ChampionLaws.{champion_stands}

@@ -13,8 +13,8 @@ use Rattle.history.specs.declared.entry.Point.TheVariants.{Reclaim}
 use Rattle.history.specs.Sessions.{closes, has, newest, session_count, is_closed}
 use Rattle.history.specs.Need.{same_object, has_object, containers_closed, texts_closed, closing, known_containers, known_manifests, containers_below, manifests_below, all_containers, all_manifests, known, reclaims, is_wanted, is_erasable, erasable}
 use Rattle.history.specs.Legal.{is_legal, is_allowed}
-use Rattle.history_laws.proofs.Lists.{In, any_in, find_in, filter_in, append_in, map_in, flat_map_in, take_in}
-use Rattle.history_laws.proofs.ApartLaws.{Apart, apart_filter, apart_append, apart_map, apart_flat_map, apart_range}
+use Rattle.ss_base.proofs.MemberLaws.{In, any_in, find_in, filter_in, append_in, map_in, flat_map_in, take_in}
+use Rattle.ss_base.proofs.ApartLaws.{Apart, apart_filter, apart_append, apart_map, apart_flat_map, apart_range}
 use Rattle.history_laws.proofs.Allowed.{step}
 use Rattle.history_laws.proofs.SessionLaws.{has_cases, has_none, has_from}
 use Rattle.history_laws.proofs.NeedLaws.{closed_still, never_live, never_needed}

@@ -15,12 +15,13 @@ use Rattle.history.specs.StandingList.{has_name, has_manifest, standing_of, chos
 use Rattle.history.specs.Need.{commits_manifest}
 use Rattle.history.specs.Legal.{is_legal, is_allowed}
 use Rattle.history_laws.specs.Stands.{MayStand}
-use Rattle.history_laws.proofs.Lists.{In, in_any, reverse_cases}
+use Rattle.ss_base.proofs.MemberLaws.{In, in_any}
+use Rattle.ss_base.proofs.GetLaws.{reverse_cases}
 use Rattle.history_laws.proofs.Allowed.{IsStep, step, commit_says, commits_next, choose_says}
 use Rattle.history_laws.proofs.SessionLaws.{committed_below}
 use Rattle.history_laws.proofs.ChampionLaws.{champions_apart}
 use Rattle.history_laws.proofs.SameLaws.{same_itself, same_manifest-true}
-use Rattle.history_laws.proofs.ApartLaws.{Apart, apart_filter, apart_take, apart_append, apart_by}
+use Rattle.ss_base.proofs.ApartLaws.{Apart, apart_filter, apart_take, apart_append, apart_by}
 use Rattle.history_laws.proofs.StandingLaws.{IsCommitOf, made, newest, standing_commit, stands_committed, commit_committed, chosen_in, others_in, standing_of_in, what_stands}
 
 abbrev pub same_standing : Standing → Standing → Bool

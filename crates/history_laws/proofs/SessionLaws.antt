@@ -10,7 +10,7 @@ use Rattle.history.specs.declared.entry.Point.TheVariants.{Commit}
 use Rattle.history.specs.Sessions.{is_number, session_begun, session_count, begins_some, begins, commits, finishes, aborts, closes, deletes, has, is_unfinished, is_retained, commits_of}
 use Rattle.history.specs.Need.{commits_manifest}
 use Rattle.history.specs.Legal.{is_legal}
-use Rattle.history_laws.proofs.Lists.{In, any_in, in_any, count_one, count_other}
+use Rattle.ss_base.proofs.MemberLaws.{In, any_in, in_any, count_one, count_other}
 use Rattle.history_laws.proofs.Allowed.{step, deletes_retained, begins_next, commits_next}
 
 -- ---- some entry does it

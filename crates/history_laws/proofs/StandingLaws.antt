@@ -16,7 +16,8 @@ use Rattle.history.specs.StandingList.{has_name, has_manifest, standing_of, chos
 use Rattle.history.specs.Need.{commits_manifest}
 use Rattle.history.specs.Legal.{is_legal}
 use Rattle.history_laws.specs.Stands.{MayStand}
-use Rattle.history_laws.proofs.Lists.{In, find_in, filter_in, filter_map_in, append_in, take_in, get_in, reverse_kept, reverse_last, reverse_in}
+use Rattle.ss_base.proofs.MemberLaws.{In, find_in, filter_in, filter_map_in, append_in, take_in, reverse_in}
+use Rattle.ss_base.proofs.GetLaws.{get_in, reverse_kept, reverse_last}
 use Rattle.history_laws.proofs.Allowed.{IsStep, step, commit_says}
 use Rattle.history_laws.proofs.SessionLaws.{has_from, has_not, unfinished_unaborted, unfinished_undeleted}
 use Rattle.history_laws.proofs.SameLaws.{same_itself, same_manifest-true}

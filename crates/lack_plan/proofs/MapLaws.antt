@@ -8,7 +8,9 @@ use Rattle.lack_plan.specs.Plan.{piece_eq, HasPlace, IsKnown, IsOrigin, AreOrigi
 use Rattle.lack_plan.specs.declared.origin.Origin.{Origin}
 use Rattle.lack_plan.specs.Maps.{HasPlaces, KnowsPieces, Joined}
 use Rattle.lack_plan.proofs.PieceLaws.{one_or_other}
-use Rattle.lack_plan.proofs.PlaceLaws.{at_end, within, lacks-push, first-keep, first-push, all-lack-push, first-in-push, first-in-keep}
+use Rattle.std.proofs.lemmas.Option.{slice_get_within}
+use Rattle.ss_base.proofs.GetLaws.{at_end}
+use Rattle.lack_plan.proofs.PlaceLaws.{lacks-push, first-keep, first-push, all-lack-push, first-in-push, first-in-keep}
 
 place-other : (q x : Piece) (ps : List Piece) (o : Option ℕ) → x ≢ q → HasPlace q ps o → HasPlace q (ps ++ x ∷ []) o
 place-other q x ps None other has = lacks-push q x ps other has
@@ -97,7 +99,7 @@ origins-push ps lists os p o are one = record {
   count = (let a = length-append os (o ∷ []) in let b = length-append ps (p ∷ []) in omega (arith, a, b, are.count));
   each = λ k q r here there. elim (at_end ps p q k here) [
     | inl old ↦
-        let inside = within ps q k old in
+        let inside = slice_get_within ps k q old in
         let same : take k (ps ++ p ∷ []) ≡ take k ps = take-append-le k ps (p ∷ []) (omega (arith, inside)) in
         elim (at_end os o r k there) [
           | inl older ↦ subst (λ before. IsOrigin before lists q r) (sym same) (are.each k q r old older)
@@ -106,7 +108,7 @@ origins-push ps lists os p o are one = record {
     | inr new ↦
         let same : take k (ps ++ p ∷ []) ≡ ps = ap (λ n. take n (ps ++ p ∷ [])) new.0 ∙ take_at ps (p ∷ []) (length ps) refl in
         elim (at_end os o r k there) [
-          | inl older ↦ absurd (let inside = within os r k older in let place = new.0 in omega (arith, place, inside, are.count))
+          | inl older ↦ absurd (let inside = slice_get_within os k r older in let place = new.0 in omega (arith, place, inside, are.count))
           | inr newer ↦ subst (λ before. IsOrigin before lists q r) (sym same) (subst (λ x. IsOrigin ps lists x r) new.1 (subst (IsOrigin ps lists p) newer.1 one))
         ]
   ];

@@ -1,31 +1,9 @@
--- Laws of places in a list, and of a list with one more item.
-use Rattle.std.proofs.Common.{◌≡◌, ◌≢◌, ◌⊎◌, ℕ, zero, suc, ◌<◌, List, [], ◌∷◌, ◌++◌, length, Some, refl, ap, ◌∙◌, inl, inr, arith, slice_get}
+-- First places of pieces in lists, and in lists with one more item.
+use Rattle.std.proofs.Common.{◌≡◌, ◌≢◌, ℕ, zero, suc, ◌<◌, List, [], ◌∷◌, ◌++◌, length, Some, ap, ◌∙◌, inl, inr, arith, slice_get}
+use Rattle.std.proofs.lemmas.Option.{slice_get_within}
+use Rattle.ss_base.proofs.GetLaws.{get_kept, get_last, at_end}
 use Rattle.ss_base.specs.declared.name.Piece.{Piece}
 use Rattle.ss_base.specs.Origins.{LacksPiece, IsFirstPlace, AllLackPiece, IsFirstIn}
-
--- what stands in a list with one more item
-pub at_end : {X : Type 0} (xs : List X) (x y : X) (k : ℕ) → slice_get (xs ++ x ∷ []) k ≡ Some y → (slice_get xs k ≡ Some y) ⊎ ((k ≡ length xs) × (x ≡ y))
-at_end [] x y zero is = inr (refl, cc)
-at_end [] x y (suc k) is = absurd (cc)
-at_end (z ∷ xs) x y zero is = inl is
-at_end (z ∷ xs) x y (suc k) is = elim (at_end xs x y k is) [
-  | inl old ↦ inl old
-  | inr new ↦ inr ((let place = new.0 in omega (arith, place)), new.1)
-]
-
-pub kept : {X : Type 0} (xs ys : List X) (y : X) (k : ℕ) → slice_get xs k ≡ Some y → slice_get (xs ++ ys) k ≡ Some y
-kept [] ys y k is = absurd (cc)
-kept (z ∷ xs) ys y zero is = is
-kept (z ∷ xs) ys y (suc k) is = kept xs ys y k is
-
-pub last_is : {X : Type 0} (xs : List X) (x : X) → slice_get (xs ++ x ∷ []) (length xs) ≡ Some x
-last_is [] x = refl
-last_is (z ∷ xs) x = last_is xs x
-
-pub within : {X : Type 0} (xs : List X) (y : X) (k : ℕ) → slice_get xs k ≡ Some y → k < length xs
-within [] y k is = absurd (cc)
-within (z ∷ xs) y zero is = omega arith
-within (z ∷ xs) y (suc k) is = let rest = within xs y k is in omega (arith, rest)
 
 -- one more piece at the end of a list
 pub lacks-push : (p x : Piece) (ps : List Piece) → x ≢ p → LacksPiece p ps → LacksPiece p (ps ++ x ∷ [])
@@ -39,13 +17,13 @@ not_before p (z ∷ ps) more (suc i) (suc j) inside low none is = not_before p p
 
 pub first-keep : (p : Piece) (ps more : List Piece) (i : ℕ) → IsFirstPlace p ps i → IsFirstPlace p (ps ++ more) i
 first-keep p ps more i first = record {
-  here = kept ps more p i first.here;
-  before = λ j low is. not_before p ps more i j (within ps p i first.here) low (first.before j low) is;
+  here = get_kept ps more p i first.here;
+  before = λ j low is. not_before p ps more i j (slice_get_within ps i p first.here) low (first.before j low) is;
 }
 
 pub first-push : (p : Piece) (ps : List Piece) → LacksPiece p ps → IsFirstPlace p (ps ++ p ∷ []) (length ps)
 first-push p ps none = record {
-  here = last_is ps p;
+  here = get_last ps p;
   before = λ j low is. elim (at_end ps p p j is) [ inl old ↦ none j old | inr new ↦ absurd (let place = new.0 in omega (arith, place, low)) ];
 }
 
@@ -59,7 +37,7 @@ all-lack-push p lists ps all none = λ which qs is i here. elim (at_end lists ps
 pub first-in-push : (p : Piece) (lists : List (List Piece)) (ps : List Piece) (at : ℕ) → AllLackPiece p lists → IsFirstPlace p ps at → IsFirstIn p (lists ++ ps ∷ []) (length lists) at
 first-in-push p lists ps at all place = record {
   list = ps;
-  there = last_is lists ps;
+  there = get_last lists ps;
   place = place;
   before = λ other qs low is. elim (at_end lists ps qs other is) [ inl old ↦ all other qs old | inr new ↦ absurd (let where_is = new.0 in omega (arith, where_is, low)) ];
 }
@@ -67,10 +45,10 @@ first-in-push p lists ps at all place = record {
 pub first-in-keep : (p : Piece) (lists : List (List Piece)) (ps : List Piece) (which at : ℕ) → IsFirstIn p lists which at → IsFirstIn p (lists ++ ps ∷ []) which at
 first-in-keep p lists ps which at first = record {
   list = first.list;
-  there = kept lists (ps ∷ []) first.list which first.there;
+  there = get_kept lists (ps ∷ []) first.list which first.there;
   place = first.place;
   before = λ other qs low is. elim (at_end lists ps qs other is) [
     | inl old ↦ first.before other qs low old
-    | inr new ↦ absurd (let where_is = new.0 in let inside = within lists first.list which first.there in omega (arith, where_is, inside, low))
+    | inr new ↦ absurd (let where_is = new.0 in let inside = slice_get_within lists which first.list first.there in omega (arith, where_is, inside, low))
   ];
 }

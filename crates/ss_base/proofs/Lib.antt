@@ -1,3 +1,7 @@
 pub mod SearchLaws
 pub mod PartsLaws
+pub mod SoundLaws
+pub mod MemberLaws
+pub mod GetLaws
+pub mod ApartLaws
 mod PaddedLaws

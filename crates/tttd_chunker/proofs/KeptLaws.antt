@@ -7,7 +7,7 @@ use Rattle.ss_base.specs.Profile.{AreSound, numbers_of}
 use Rattle.tttd_chunker.specs.Cut.{cut}
 use Rattle.tttd_chunker.specs.Pending.{Pending}
 use Rattle.tttd_chunker.specs.Scanned.{IsKnown}
-use Rattle.tttd_chunker.proofs.SoundLaws.{AreSound-numbers_of}
+use Rattle.ss_base.proofs.SoundLaws.{AreSound-numbers_of}
 use Rattle.tttd_chunker.proofs.CutLaws.{first_cut-within}
 use Rattle.tttd_chunker.proofs.StreamLaws.{cut-append, has_cut-some}
 

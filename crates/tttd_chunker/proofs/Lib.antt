@@ -1,5 +1,4 @@
 pub mod CutLaws
-pub mod SoundLaws
 pub mod SearchSteps
 pub mod StreamLaws
 pub mod ScanLaws

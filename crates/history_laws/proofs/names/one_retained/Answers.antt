@@ -1,4 +1,4 @@
-use Rattle.history_laws.proofs.Lists.{in_Contains}
+use Rattle.ss_base.proofs.MemberLaws.{in_Contains}
 use Rattle.history_laws.proofs.NameLaws.{retained_once, retained_found}
 use Rattle.history.specs.Sessions.{sessions_under}
 use Rattle.history_laws.proofs.names.one_retained.Goals as goal

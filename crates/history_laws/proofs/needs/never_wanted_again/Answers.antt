@@ -1,5 +1,5 @@
 use Rattle.history.specs.Need.{erasable}
-use Rattle.history_laws.proofs.Lists.{in_Contains}
+use Rattle.ss_base.proofs.MemberLaws.{in_Contains}
 use Rattle.history_laws.proofs.ObjectLaws.{erasable_parts, never_wanted, reclaimed_parts}
 use Rattle.history_laws.proofs.needs.never_wanted_again.Goals as goal
 

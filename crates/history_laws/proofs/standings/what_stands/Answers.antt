@@ -1,10 +1,10 @@
 use Rattle.history.specs.StandingList.{standing}
 use Rattle.history_laws.specs.Stands.{MayStand}
-use Rattle.history_laws.proofs.Lists.{All-from_in, in_Contains}
+use Rattle.ss_base.proofs.MemberLaws.{All-from_in, in_Contains}
 use mathlib.Core.List.{map}
 use Rattle.ss_base.specs.declared.ids.Standing.{Standing}
 use Rattle.ss_base.specs.Champions.{same_manifest}
-use Rattle.history_laws.proofs.ApartLaws.{apart_map, IsDistinct-from_apart}
+use Rattle.ss_base.proofs.ApartLaws.{apart_map, IsDistinct-from_apart}
 use Rattle.history_laws.proofs.StandingLaws.{what_stands}
 use Rattle.history_laws.proofs.OnceLaws.{same_standing, stands_once, same_stamps}
 use Rattle.history_laws.proofs.standings.what_stands.Goals as goal

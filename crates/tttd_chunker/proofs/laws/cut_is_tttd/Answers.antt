@@ -1,5 +1,5 @@
 use Rattle.tttd_chunker.proofs.CutLaws.{cut-is, cut-one, cut-whole, cut-sized}
-use Rattle.tttd_chunker.proofs.SoundLaws.{AreSound-numbers_of}
+use Rattle.ss_base.proofs.SoundLaws.{AreSound-numbers_of}
 use Rattle.ss_base.specs.Profile.{numbers_of}
 use Rattle.tttd_chunker.proofs.laws.cut_is_tttd.Goals as goal
 

@@ -1,7 +1,7 @@
 use Rattle.std.proofs.Common.{ap, ◌∙◌}
 use Rattle.ss_base.specs.Profile.{numbers_of}
 use Rattle.tttd_chunker.specs.Cut.{has_cut}
-use Rattle.tttd_chunker.proofs.SoundLaws.{AreSound-numbers_of}
+use Rattle.ss_base.proofs.SoundLaws.{AreSound-numbers_of}
 use Rattle.tttd_chunker.proofs.StreamLaws.{has_cut-nil}
 use Rattle.tttd_chunker.proofs.chunker.Chunker.new.Goals as goal
 

@@ -3,7 +3,7 @@ use Rattle.ss_base.specs.Profile.{numbers_of}
 use Rattle.std.proofs.lemmas.List.{nil_from_length}
 use Rattle.tttd_chunker.specs.Cut.{cut}
 use Rattle.tttd_chunker.proofs.CutLaws.{cut-nil}
-use Rattle.tttd_chunker.proofs.SoundLaws.{AreSound-numbers_of}
+use Rattle.ss_base.proofs.SoundLaws.{AreSound-numbers_of}
 use Rattle.tttd_chunker.proofs.StreamLaws.{cut-last, has_cut-few}
 use Rattle.tttd_chunker.proofs.KeptLaws.{tail-is}
 use Rattle.tttd_chunker.proofs.chunker.Chunker.rest.Goals as goal

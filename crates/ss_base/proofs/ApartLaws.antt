@@ -3,7 +3,7 @@ use Rattle.std.proofs.Common.{◌≡◌, ℕ, zero, suc, ◌+◌, ◌≤◌, Boo
 use mathlib.Core.List.{map}
 use Rattle.std.specs.List.{filter, flat_map, range_with_len, AllByRecursion, IsDistinct}
 use Rattle.std.proofs.lemmas.Bool.{cases_Bool, ne_eqb}
-use Rattle.history_laws.proofs.Lists.{In, filter_in, append_in, map_in, flat_map_in, take_in}
+use Rattle.ss_base.proofs.MemberLaws.{In, filter_in, append_in, map_in, flat_map_in, take_in}
 
 -- no item is the same as a later one
 abbrev pub Apart : {X : Type 0} → (X → X → Bool) → List X → Type 0

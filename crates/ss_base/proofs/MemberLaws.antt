@@ -1,9 +1,9 @@
--- Membership, and tests over lists.
-use Rattle.std.proofs.Common.{◌≡◌, ◌⊎◌, ℕ, zero, suc, ◌+◌, ◌≤◌, Bool, true, false, cond, List, [], ◌∷◌, ◌++◌, length, take, reverse, slice_get, Option, Some, None, refl, sym, ap, ◌∙◌, subst, inl, inr, arith, zero-add}
+-- Members of lists, tests over them, and counts.
+use Rattle.std.proofs.Common.{◌≡◌, ◌⊎◌, ℕ, zero, suc, ◌+◌, ◌≤◌, Bool, true, false, cond, List, [], ◌∷◌, ◌++◌, take, reverse, Option, Some, None, refl, sym, ap, ◌∙◌, subst, inl, inr, arith, zero-add}
 use mathlib.Core.List.{map}
 use Rattle.std.specs.List.{All, Contains, filter, find, filter_map, cons_option, flat_map, list_any, list_all, count_by}
 use Rattle.std.proofs.lemmas.Bool.{both_ways, and_parts, or_cases, or_left, or_right, or_parts, false_from_ne_true, cases_Bool}
-use Rattle.std.proofs.lemmas.List.{reverse-append, length-reverse}
+use Rattle.std.proofs.lemmas.List.{reverse-append}
 use Rattle.std.proofs.lemmas.List.Sums.{sum_by-cons}
 use Rattle.std.proofs.lemmas.List.Elements.{All-nil, All-cons}
 
@@ -168,47 +168,6 @@ find_only p x (y ∷ ys) few (inr later) e = elim (cases_Bool (p y)) [
       let more = count_other p y ys fails in
       let fewer : count_by p ys ≤ 1 = omega (arith, more, few) in
       rw fails (find_only p x ys fewer later e)
-]
-
--- ---- places
-
-pub get_in : {X : Type 0} (x : X) (xs : List X) (k : ℕ) → slice_get xs k ≡ Some x → In x xs
-get_in x [] k is = absurd (cc)
-get_in x (y ∷ ys) zero is = inl (cc)
-get_in x (y ∷ ys) (suc k) is = inr (get_in x ys k is)
-
-get_kept : {X : Type 0} (x : X) (xs ys : List X) (k : ℕ) → slice_get xs k ≡ Some x → slice_get (xs ++ ys) k ≡ Some x
-get_kept x [] ys k is = absurd (cc)
-get_kept x (z ∷ xs) ys zero is = is
-get_kept x (z ∷ xs) ys (suc k) is = get_kept x xs ys k is
-
-get_last : {X : Type 0} (x : X) (xs : List X) → slice_get (xs ++ x ∷ []) (length xs) ≡ Some x
-get_last x [] = refl
-get_last x (z ∷ xs) = get_last x xs
-
--- places of a list that is read backwards, where one more item comes in front
-pub reverse_kept : {X : Type 0} (x y : X) (xs : List X) (k : ℕ) → slice_get (reverse xs) k ≡ Some x → slice_get (reverse (y ∷ xs)) k ≡ Some x
-reverse_kept x y xs k is = ap (λ l. slice_get l k) (reverse-append (y ∷ []) xs) ∙ get_kept x (reverse xs) (y ∷ []) k is
-
-pub reverse_last : {X : Type 0} (x : X) (xs : List X) → slice_get (reverse (x ∷ xs)) (length xs) ≡ Some x
-reverse_last x xs =
-    ap (λ l. slice_get l (length xs)) (reverse-append (x ∷ []) xs)
-    ∙ ap (λ k. slice_get (reverse xs ++ x ∷ []) k) (sym (length-reverse xs))
-    ∙ get_last x (reverse xs)
-
-get_cases : {X : Type 0} (x y : X) (xs : List X) (k : ℕ) → slice_get (xs ++ y ∷ []) k ≡ Some x → (slice_get xs k ≡ Some x) ⊎ ((k ≡ length xs) × (y ≡ x))
-get_cases x y [] zero is = inr (refl, cc)
-get_cases x y [] (suc k) is = absurd (cc)
-get_cases x y (z ∷ xs) zero is = inl is
-get_cases x y (z ∷ xs) (suc k) is = elim (get_cases x y xs k is) [
-  | inl older ↦ inl older
-  | inr last ↦ inr ((let place = last.0 in omega (arith, place)), last.1)
-]
-
-pub reverse_cases : {X : Type 0} (x y : X) (xs : List X) (k : ℕ) → slice_get (reverse (y ∷ xs)) k ≡ Some x → (slice_get (reverse xs) k ≡ Some x) ⊎ ((k ≡ length xs) × (y ≡ x))
-reverse_cases x y xs k is = elim (get_cases x y (reverse xs) k (ap (λ l. slice_get l k) (sym (reverse-append (y ∷ []) xs)) ∙ is)) [
-  | inl older ↦ inl older
-  | inr last ↦ inr (last.0 ∙ length-reverse xs, last.1)
 ]
 
 pub reverse_in : {X : Type 0} (x : X) (xs : List X) → In x (reverse xs) → In x xs
