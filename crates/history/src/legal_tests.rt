@@ -1,239 +1,500 @@
-use super::*;
-use ss_base::{ContainerId, ManifestId, Name, Object, Standing, StreamName};
+// Each way in which an entry can break the rule of its kind, and what is allowed beside it.
+use crate::test_entries::Step::{
+    Abort, Begin, Choose, Commit, Delete, Done, Finish, Look, Reclaim, Stat,
+};
+use crate::test_entries::*;
+use crate::*;
+use ss_base::Object::{Container, Manifest};
+use ss_base::{ContainerId, Name, Object, Standing};
 use std::alloc::Global;
+use std::process;
 use std::test::Fail;
 
-const RULES: Rules = Rules {
-    bits: 1,
-    standings: 8,
-    champions: 8,
-    limits: Limits {
-        entries: 1_048_576,
-        weight: 16_777_216,
-    },
-};
-
-const M0: ManifestId = ManifestId { session: 0, seq: 0 };
-
-const M1: ManifestId = ManifestId { session: 1, seq: 0 };
-
-const C0: ContainerId = ContainerId {
-    session: 0,
-    ordinal: 0,
-};
-
-fn stream(text: &[u8]) -> Result<StreamName, Fail> {
-    Ok(StreamName::new(text).ok_or("a stream name")?)
+// The first so many entries of a history.
+#[derive(Clone, Copy)]
+enum Past {
+    Backups(usize),
+    Segments(usize),
+    Champions(usize),
+    Reading(usize),
 }
 
-fn begin(text: &[u8], session: u32) -> Result<Point, Fail> {
-    Ok(Point::Begin {
-        name: stream(text)?,
-        session: Some(session),
-    })
-}
+use Past::{Backups, Champions, Reading, Segments};
 
-fn delete(text: &[u8], session: Option<u32>) -> Result<Point, Fail> {
-    Ok(Point::Delete {
-        name: stream(text)?,
-        session,
-    })
-}
+// What is shown, the entries before, the author, and what it records.
+type Row = (&'static str, Past, u32, Step<'static>);
 
-fn choose(alloc: Global, session: u32, champions: &[ManifestId]) -> Result<Point, Fail> {
-    let hooks = [Name([0; 32]), Name([1; 32])];
-    Ok(Point::Choose {
-        session,
-        hooks: Items::new(Vec::from_slice(alloc, &hooks)?),
-        champions: Items::new(Vec::from_slice(alloc, champions)?),
-    })
-}
+// The containers and the first manifest of session 0, and the manifest of session 1.
+const C: Object = Container(C00);
 
-fn commit(
-    alloc: Global,
-    manifest: ManifestId,
-    fresh: u32,
-    fresh_bytes: u32,
-) -> Result<Point, Fail> {
-    Ok(Point::Commit {
-        manifest,
-        content: Name([2; 32]),
-        text: Name([3; 32]),
-        chunks: 4,
-        bytes: 769,
-        fresh,
-        fresh_bytes,
-        uses: Items::new(Vec::from_slice(alloc, &[C0])?),
-    })
-}
+const D: Object = Container(C01);
 
-fn reclaim(alloc: Global, objects: &[Object]) -> Result<Point, Fail> {
-    Ok(Point::Reclaim {
-        objects: Items::new(Vec::from_slice(alloc, objects)?),
-    })
-}
+const M: Object = Manifest(M00);
+
+const N: Object = Manifest(M10);
 
 // Two backups of the same bytes, then the totals, deletes and reclaims, each run with its own author.
-fn history(alloc: Global) -> Result<Vec<Entry>, Fail> {
-    let totals = Totals {
-        streams: 2,
-        bytes: 1538,
-        fresh: 257,
-        containers: 1,
-        reclaimed: 0,
-        entries: 8,
+fn two_backups() -> [(u32, Step<'static>); 15] {
+    [
+        (0, Begin("zeros", Some(0))),
+        (0, Choose(0, &[H, G], &[])),
+        (0, Commit(M00, [4, 769, 2, 257], &[C00])),
+        (0, Finish(0, 1)),
+        (1, Begin("again", Some(1))),
+        (1, Choose(1, &[H, G], &[M00])),
+        (1, Commit(M10, [4, 769, 0, 0], &[C00])),
+        (1, Finish(1, 0)),
+        (2, Stat([2, 1538, 257, 1, 0, 8])),
+        (3, Delete("zeros", Some(0))),
+        (4, Reclaim(&[M])),
+        (5, Delete("zeros", None)),
+        (6, Delete("again", Some(1))),
+        (7, Reclaim(&[C, N])),
+        (8, Reclaim(&[])),
+    ]
+}
+
+// A session that is given up in its third segment, whose manifest was written.
+fn three_segments() -> [(u32, Step<'static>); 8] {
+    [
+        (0, Begin("x", Some(0))),
+        (0, Choose(0, &[H], &[])),
+        (0, Commit(M00, LEAST, &[C00, C01])),
+        (0, Choose(0, &[H], &[M00])),
+        (0, Commit(M01, LEAST, &[C00])),
+        (0, Choose(0, &[H], &[M01])),
+        (0, Abort(0, 2, 3)),
+        (1, Reclaim(&[C, D, M, Manifest(M01), Manifest(M02)])),
+    ]
+}
+
+// Two streams with no hook in common, and a session that has a hook of the one and then of the other.
+fn two_champions() -> [(u32, Step<'static>); 12] {
+    [
+        (0, Begin("x", Some(0))),
+        (0, Choose(0, &[H], &[])),
+        (0, Commit(M00, LEAST, &[C00])),
+        (0, Finish(0, 1)),
+        (1, Begin("y", Some(1))),
+        (1, Choose(1, &[G], &[])),
+        (1, Commit(M10, LEAST, &[C10])),
+        (1, Finish(1, 1)),
+        (2, Begin("z", Some(2))),
+        (2, Choose(2, &[H], &[M00])),
+        (2, Commit(M20, LEAST, &[C00, C20])),
+        (2, Choose(2, &[G], &[M10])),
+    ]
+}
+
+// A stream that is deleted while it is read.
+fn deleted_while_read() -> [(u32, Step<'static>); 9] {
+    [
+        (0, Begin("x", Some(0))),
+        (0, Choose(0, &[H, G], &[])),
+        (0, Commit(M00, LEAST, &[C00])),
+        (0, Finish(0, 1)),
+        (1, Look("x", Some((0, 0)))),
+        (2, Delete("x", Some(0))),
+        (3, Reclaim(&[])),
+        (1, Done(0)),
+        (3, Reclaim(&[C, M])),
+    ]
+}
+
+fn entries_of(alloc: Global, past: Past) -> Result<Vec<Entry>, Fail> {
+    let (mut entries, kept) = match past {
+        Backups(n) => (history(alloc, &two_backups())?, n),
+        Segments(n) => (history(alloc, &three_segments())?, n),
+        Champions(n) => (history(alloc, &two_champions())?, n),
+        Reading(n) => (history(alloc, &deleted_while_read())?, n),
     };
-    let mut entries = Vec::new(alloc);
-    entries.push(Entry {
-        author: 0,
-        point: begin(b"zeros", 0)?,
-    })?;
-    entries.push(Entry {
-        author: 0,
-        point: choose(alloc, 0, &[])?,
-    })?;
-    entries.push(Entry {
-        author: 0,
-        point: commit(alloc, M0, 2, 257)?,
-    })?;
-    entries.push(Entry {
-        author: 0,
-        point: Point::Finish {
-            session: 0,
-            containers: 1,
-        },
-    })?;
-    entries.push(Entry {
-        author: 1,
-        point: begin(b"again", 1)?,
-    })?;
-    entries.push(Entry {
-        author: 1,
-        point: choose(alloc, 1, &[M0])?,
-    })?;
-    entries.push(Entry {
-        author: 1,
-        point: commit(alloc, M1, 0, 0)?,
-    })?;
-    entries.push(Entry {
-        author: 1,
-        point: Point::Finish {
-            session: 1,
-            containers: 0,
-        },
-    })?;
-    entries.push(Entry {
-        author: 2,
-        point: Point::Stat { totals },
-    })?;
-    entries.push(Entry {
-        author: 3,
-        point: delete(b"zeros", Some(0))?,
-    })?;
-    entries.push(Entry {
-        author: 4,
-        point: reclaim(alloc, &[Object::Manifest(M0)])?,
-    })?;
-    entries.push(Entry {
-        author: 5,
-        point: delete(b"zeros", None)?,
-    })?;
-    entries.push(Entry {
-        author: 6,
-        point: delete(b"again", Some(1))?,
-    })?;
-    let last = [Object::Container(C0), Object::Manifest(M1)];
-    entries.push(Entry {
-        author: 7,
-        point: reclaim(alloc, &last)?,
-    })?;
-    entries.push(Entry {
-        author: 8,
-        point: reclaim(alloc, &[])?,
-    })?;
+    entries.truncate(kept);
     Ok(entries)
 }
 
-// The first entry that is not legal, of a history that is short.
-fn found(alloc: Global, entries: &[Entry]) -> Result<Option<usize>, Fail> {
-    if entries.len() > 100 {
-        return Ok(Some(100));
+fn all_refused(rt: &impl process::Abort, alloc: Global, rows: &[Row]) -> Result<(), Fail> {
+    for (shown, past, author, step) in rows {
+        let mut entries = entries_of(alloc, *past)?;
+        let n = entries.len();
+        add(alloc, &mut entries, *author, *step)?;
+        assert_eq!(rt; found(alloc, RULES, &entries)?, Some(n), "{shown}");
     }
-    Ok(first_illegal(alloc, &RULES, entries)?)
+    Ok(())
 }
 
-// Entries that may not follow the first n of the history, as n, author and point.
-fn refused(alloc: Global) -> Result<Vec<(usize, u32, Point)>, Fail> {
-    let abort = |containers: u32, texts: u32| Point::Abort {
-        session: 0,
-        containers,
-        texts,
-    };
-    let mut rows = Vec::new(alloc);
-    rows.push((0, 0, begin(b"zeros", 1)?))?;
-    rows.push((4, 1, begin(b"zeros", 1)?))?;
-    rows.push((1, 1, choose(alloc, 0, &[])?))?;
-    rows.push((1, 0, choose(alloc, 0, &[M0])?))?;
-    rows.push((2, 0, choose(alloc, 0, &[])?))?;
-    rows.push((5, 1, choose(alloc, 1, &[])?))?;
-    rows.push((1, 0, commit(alloc, M0, 2, 257)?))?;
-    rows.push((2, 0, commit(alloc, M1, 2, 257)?))?;
-    rows.push((2, 0, commit(alloc, M0, 5, 257)?))?;
-    rows.push((
-        2,
-        0,
-        Point::Finish {
-            session: 0,
-            containers: 1,
-        },
-    ))?;
-    rows.push((
-        3,
-        0,
-        Point::Finish {
-            session: 0,
-            containers: 0,
-        },
-    ))?;
-    rows.push((
-        3,
-        1,
-        Point::Finish {
-            session: 0,
-            containers: 1,
-        },
-    ))?;
-    rows.push((3, 0, abort(1, 0)))?;
-    rows.push((2, 0, abort(0, 2)))?;
-    rows.push((9, 3, delete(b"zeros", None)?))?;
-    rows.push((9, 3, delete(b"zeros", Some(1))?))?;
-    rows.push((10, 4, reclaim(alloc, &[])?))?;
-    rows.push((10, 4, reclaim(alloc, &[Object::Container(C0)])?))?;
-    rows.push((
-        10,
-        4,
-        Point::Look {
-            name: stream(b"zeros")?,
-            seen: Some(Seen {
-                reader: 0,
-                session: 0,
-            }),
-        },
-    ))?;
-    rows.push((4, 1, Point::Done { reader: 0 }))?;
-    Ok(rows)
+fn all_allowed(rt: &impl process::Abort, alloc: Global, rows: &[Row]) -> Result<(), Fail> {
+    for (shown, past, author, step) in rows {
+        let mut entries = entries_of(alloc, *past)?;
+        add(alloc, &mut entries, *author, *step)?;
+        assert_eq!(rt; found(alloc, RULES, &entries)?, None, "{shown}");
+    }
+    Ok(())
 }
 
 #[test]
-fn stat_delete_reclaim(rt: HostRuntime) -> Result<(), Fail> {
+fn whole_histories(rt: HostRuntime) -> Result<(), Fail> {
     let alloc = rt.alloc();
-    let entries = history(alloc)?;
-    assert_eq!(rt; found(alloc, entries.as_slice())?, None);
-    for (n, author, point) in refused(alloc)? {
-        let mut entries = history(alloc)?;
-        entries.truncate(n);
-        entries.push(Entry { author, point })?;
-        assert_eq!(rt; found(alloc, entries.as_slice())?, Some(n));
+    for past in [Backups(15), Segments(8), Champions(12), Reading(9)] {
+        let entries = entries_of(alloc, past)?;
+        assert_eq!(rt; found(alloc, RULES, &entries)?, None);
+    }
+    Ok(())
+}
+
+fn begins() -> [Row; 8] {
+    [
+        ("none, a new name", Backups(0), 0, Begin("zeros", None)),
+        ("none, deleted", Backups(10), 4, Begin("zeros", None)),
+        ("none, aborted", Segments(7), 1, Begin("x", None)),
+        ("unfinished", Backups(1), 1, Begin("zeros", Some(1))),
+        ("retained", Backups(4), 1, Begin("zeros", Some(1))),
+        ("too high", Backups(0), 0, Begin("zeros", Some(1))),
+        ("too high later", Backups(4), 1, Begin("again", Some(2))),
+        ("used before", Backups(4), 1, Begin("again", Some(0))),
+    ]
+}
+
+#[test]
+fn begins_that_are_refused(rt: HostRuntime) -> Result<(), Fail> {
+    all_refused(&rt, rt.alloc(), &begins())
+}
+
+fn choices() -> [Row; 15] {
+    [
+        ("not begun", Backups(0), 0, Choose(0, &[H], &[])),
+        ("finished", Backups(4), 0, Choose(0, &[H], &[M00])),
+        ("aborted", Segments(7), 0, Choose(0, &[H], &[])),
+        ("another author", Backups(1), 1, Choose(0, &[H], &[])),
+        ("pending", Backups(2), 0, Choose(0, &[H], &[])),
+        ("a hook twice", Backups(1), 0, Choose(0, &[H, H], &[])),
+        ("twice, apart", Backups(1), 0, Choose(0, &[H, G, H], &[])),
+        ("a first bit", Backups(1), 0, Choose(0, &[H, NO_HOOK], &[])),
+        ("none stands", Backups(1), 0, Choose(0, &[H], &[M00])),
+        ("one missing", Backups(5), 1, Choose(1, &[H], &[])),
+        ("one twice", Backups(5), 1, Choose(1, &[H], &[M00, M00])),
+        ("one elsewhere", Champions(9), 2, Choose(2, &[H], &[M10])),
+        ("no first", Champions(9), 2, Choose(2, &[H, G], &[M00])),
+        ("no second", Champions(9), 2, Choose(2, &[H, G], &[M10])),
+        ("order", Champions(9), 2, Choose(2, &[H, G], &[M00, M10])),
+    ]
+}
+
+#[test]
+fn choices_that_are_refused(rt: HostRuntime) -> Result<(), Fail> {
+    all_refused(&rt, rt.alloc(), &choices())
+}
+
+fn commits() -> [Row; 10] {
+    [
+        ("not begun", Backups(0), 0, Commit(M00, LEAST, &[])),
+        ("no choice", Backups(1), 0, Commit(M00, LEAST, &[])),
+        ("no more", Backups(3), 0, Commit(M01, LEAST, &[])),
+        ("finished", Backups(4), 0, Commit(M01, LEAST, &[])),
+        ("aborted", Segments(7), 0, Commit(M02, LEAST, &[])),
+        ("another author", Backups(2), 1, Commit(M00, LEAST, &[])),
+        ("another session", Backups(2), 0, Commit(M10, LEAST, &[])),
+        ("too high", Backups(2), 0, Commit(M01, LEAST, &[])),
+        ("too high later", Segments(4), 0, Commit(M02, LEAST, &[])),
+        ("used before", Segments(4), 0, Commit(M00, LEAST, &[])),
+    ]
+}
+
+#[test]
+fn commits_that_are_refused(rt: HostRuntime) -> Result<(), Fail> {
+    all_refused(&rt, rt.alloc(), &commits())
+}
+
+fn counts() -> [(&'static str, [u32; 4]); 6] {
+    [
+        ("no chunk", [0, 1, 0, 0]),
+        ("4,097 chunks", [4097, 4097, 0, 0]),
+        ("fewer bytes than chunks", [2, 1, 0, 0]),
+        ("too many bytes", [4096, 45_875_201, 0, 0]),
+        ("more fresh than chunks", [2, 3, 3, 3]),
+        ("more fresh bytes than bytes", [2, 3, 2, 4]),
+    ]
+}
+
+#[test]
+fn counts_that_are_refused(rt: HostRuntime) -> Result<(), Fail> {
+    for (shown, counts) in counts() {
+        let row = (shown, Backups(2), 0, Commit(M00, counts, &[C00]));
+        all_refused(&rt, rt.alloc(), &[row])?;
+    }
+    Ok(())
+}
+
+fn uses() -> [Row; 8] {
+    [
+        ("order", Backups(2), 0, Commit(M00, LEAST, &[C01, C00])),
+        ("twice", Backups(2), 0, Commit(M00, LEAST, &[C00, C00])),
+        ("sessions", Backups(6), 1, Commit(M10, LEAST, &[C10, C00])),
+        ("no ordinal", Backups(2), 0, Commit(M00, LEAST, &[C0_PAST])),
+        ("to come", Backups(2), 0, Commit(M00, LEAST, &[C10])),
+        ("unused", Backups(6), 1, Commit(M10, LEAST, &[C01])),
+        ("another's", Champions(10), 2, Commit(M20, LEAST, &[C10])),
+        ("earlier", Champions(12), 2, Commit(M21, LEAST, &[C00])),
+    ]
+}
+
+#[test]
+fn uses_that_are_refused(rt: HostRuntime) -> Result<(), Fail> {
+    all_refused(&rt, rt.alloc(), &uses())
+}
+
+fn finishes() -> [Row; 7] {
+    [
+        ("not begun", Backups(0), 0, Finish(0, 0)),
+        ("finished", Backups(4), 0, Finish(0, 1)),
+        ("aborted", Segments(7), 0, Finish(0, 2)),
+        ("another author", Backups(3), 1, Finish(0, 1)),
+        ("pending", Backups(2), 0, Finish(0, 1)),
+        ("an ordinal used", Backups(3), 0, Finish(0, 0)),
+        ("an ordinal used earlier", Segments(5), 0, Finish(0, 1)),
+    ]
+}
+
+#[test]
+fn finishes_that_are_refused(rt: HostRuntime) -> Result<(), Fail> {
+    all_refused(&rt, rt.alloc(), &finishes())
+}
+
+fn aborts() -> [Row; 11] {
+    [
+        ("not begun", Backups(0), 0, Abort(0, 0, 0)),
+        ("finished", Backups(4), 0, Abort(0, 1, 1)),
+        ("aborted", Segments(7), 0, Abort(0, 2, 2)),
+        ("another author", Backups(3), 1, Abort(0, 1, 1)),
+        ("an ordinal used", Backups(3), 0, Abort(0, 0, 1)),
+        ("an ordinal used earlier", Segments(6), 0, Abort(0, 1, 2)),
+        ("a text less", Backups(3), 0, Abort(0, 1, 0)),
+        ("a text more", Backups(3), 0, Abort(0, 1, 2)),
+        ("two texts more, pending", Backups(2), 0, Abort(0, 0, 2)),
+        ("a text less, pending", Segments(6), 0, Abort(0, 2, 1)),
+        ("two more of two, pending", Segments(6), 0, Abort(0, 2, 4)),
+    ]
+}
+
+#[test]
+fn aborts_that_are_refused(rt: HostRuntime) -> Result<(), Fail> {
+    all_refused(&rt, rt.alloc(), &aborts())
+}
+
+fn deletes() -> [Row; 6] {
+    [
+        ("none", Backups(9), 3, Delete("zeros", None)),
+        ("another session", Backups(9), 3, Delete("zeros", Some(1))),
+        ("a new name", Backups(0), 3, Delete("zeros", Some(0))),
+        ("unfinished", Backups(3), 3, Delete("zeros", Some(0))),
+        ("aborted", Segments(7), 3, Delete("x", Some(0))),
+        ("deleted", Backups(10), 3, Delete("zeros", Some(0))),
+    ]
+}
+
+#[test]
+fn deletes_that_are_refused(rt: HostRuntime) -> Result<(), Fail> {
+    all_refused(&rt, rt.alloc(), &deletes())
+}
+
+fn looks() -> [Row; 8] {
+    [
+        ("none", Reading(4), 1, Look("x", None)),
+        ("session", Backups(8), 1, Look("zeros", Some((0, 1)))),
+        ("a new name", Reading(0), 1, Look("x", Some((0, 0)))),
+        ("unfinished", Reading(3), 1, Look("x", Some((0, 0)))),
+        ("aborted", Segments(7), 1, Look("x", Some((0, 0)))),
+        ("deleted", Reading(6), 1, Look("x", Some((1, 0)))),
+        ("reader too high", Reading(4), 1, Look("x", Some((1, 0)))),
+        ("reader used before", Reading(5), 1, Look("x", Some((0, 0)))),
+    ]
+}
+
+#[test]
+fn looks_that_are_refused(rt: HostRuntime) -> Result<(), Fail> {
+    all_refused(&rt, rt.alloc(), &looks())
+}
+
+fn ends_of_readings() -> [Row; 4] {
+    [
+        ("not begun", Reading(4), 1, Done(0)),
+        ("another reader", Reading(5), 1, Done(1)),
+        ("another author", Reading(5), 2, Done(0)),
+        ("done", Reading(8), 1, Done(0)),
+    ]
+}
+
+#[test]
+fn ends_of_readings_that_are_refused(rt: HostRuntime) -> Result<(), Fail> {
+    all_refused(&rt, rt.alloc(), &ends_of_readings())
+}
+
+fn reclaims() -> [Row; 11] {
+    [
+        ("none named", Backups(10), 4, Reclaim(&[])),
+        ("a container less", Backups(13), 7, Reclaim(&[N])),
+        ("a manifest less", Backups(13), 7, Reclaim(&[C])),
+        ("order", Reading(8), 3, Reclaim(&[M, C])),
+        ("used", Backups(10), 4, Reclaim(&[C, M])),
+        ("retained", Backups(9), 4, Reclaim(&[M])),
+        ("unfinished", Segments(6), 1, Reclaim(&[C])),
+        ("being read", Reading(6), 3, Reclaim(&[C, M])),
+        ("unknown", Backups(10), 4, Reclaim(&[M, Manifest(M01)])),
+        ("twice", Backups(10), 4, Reclaim(&[M, M])),
+        ("named before", Backups(11), 4, Reclaim(&[M])),
+    ]
+}
+
+#[test]
+fn reclaims_that_are_refused(rt: HostRuntime) -> Result<(), Fail> {
+    all_refused(&rt, rt.alloc(), &reclaims())
+}
+
+fn totals_given() -> [Row; 6] {
+    [
+        ("streams", Backups(8), 2, Stat([1, 1538, 257, 1, 0, 8])),
+        ("bytes", Backups(8), 2, Stat([2, 1537, 257, 1, 0, 8])),
+        ("fresh", Backups(8), 2, Stat([2, 1538, 256, 1, 0, 8])),
+        ("containers", Backups(8), 2, Stat([2, 1538, 257, 2, 0, 8])),
+        ("reclaimed", Backups(8), 2, Stat([2, 1538, 257, 1, 1, 8])),
+        ("entries", Backups(8), 2, Stat([2, 1538, 257, 1, 0, 9])),
+    ]
+}
+
+#[test]
+fn totals_that_are_refused(rt: HostRuntime) -> Result<(), Fail> {
+    all_refused(&rt, rt.alloc(), &totals_given())
+}
+
+// Entries beside those above.
+fn allowed() -> [Row; 24] {
+    [
+        ("begin, unfinished", Backups(1), 1, Begin("zeros", None)),
+        ("begin, retained", Backups(4), 1, Begin("zeros", None)),
+        ("begin, deleted", Backups(10), 4, Begin("zeros", Some(2))),
+        ("begin, aborted", Segments(7), 1, Begin("x", Some(1))),
+        ("no hooks", Backups(1), 0, Choose(0, &[], &[])),
+        ("two", Champions(9), 2, Choose(2, &[H, G], &[M10, M00])),
+        ("no use", Backups(2), 0, Commit(M00, LEAST, &[])),
+        ("greatest", Backups(2), 0, Commit(M00, GREATEST, &[])),
+        ("last", Backups(2), 0, Commit(M00, LEAST, &[C0_LAST])),
+        ("both", Backups(6), 1, Commit(M10, LEAST, &[C00, C10])),
+        ("chosen", Champions(12), 2, Commit(M21, LEAST, &[C10])),
+        ("more containers", Backups(3), 0, Finish(0, 9)),
+        ("above all ordinals", Segments(5), 0, Finish(0, 2)),
+        ("abort at once", Backups(1), 0, Abort(0, 0, 0)),
+        ("abort without a text", Backups(2), 0, Abort(0, 0, 0)),
+        ("abort with one", Backups(2), 0, Abort(0, 0, 1)),
+        ("abort with two", Segments(6), 0, Abort(0, 2, 2)),
+        ("nothing to delete", Backups(0), 3, Delete("zeros", None)),
+        ("delete, unfinished", Backups(3), 3, Delete("zeros", None)),
+        ("nothing to read", Reading(0), 1, Look("x", None)),
+        ("look, unfinished", Reading(3), 1, Look("x", None)),
+        ("look, deleted", Reading(6), 1, Look("x", None)),
+        ("a second reader", Reading(5), 2, Look("x", Some((1, 0)))),
+        ("later totals", Reading(9), 4, Stat([0, 0, 0, 1, 2, 9])),
+    ]
+}
+
+#[test]
+fn entries_beside_those_that_are_refused(rt: HostRuntime) -> Result<(), Fail> {
+    all_allowed(&rt, rt.alloc(), &allowed())
+}
+
+// The session chooses for so many hooks.
+fn choice_of(alloc: Global, n: u16) -> Result<Point, Fail> {
+    let mut hooks = Vec::new(alloc);
+    for i in 0..n {
+        let [high, low] = i.to_be_bytes();
+        let mut digest = [0; 32];
+        digest[0] = high;
+        digest[1] = low;
+        hooks.push(Name(digest))?;
+    }
+    Ok(Point::Choose {
+        session: 0,
+        hooks: Items::new(hooks),
+        champions: Items::new(Vec::new(alloc)),
+    })
+}
+
+// `rt try` takes more than a minute to tell 4,096 hooks apart.
+#[test]
+fn too_many_hooks(rt: HostRuntime) -> Result<(), Fail> {
+    let alloc = rt.alloc();
+    for (n, illegal) in [(400, None), (4097, Some(1))] {
+        let mut entries = entries_of(alloc, Backups(1))?;
+        let point = choice_of(alloc, n)?;
+        entries.push(Entry { author: 0, point })?;
+        assert_eq!(rt; found(alloc, RULES, &entries)?, illegal);
+    }
+    Ok(())
+}
+
+fn containers(alloc: Global, n: u32) -> Result<Vec<ContainerId>, Fail> {
+    let mut ids = Vec::new(alloc);
+    for ordinal in 0..n {
+        ids.push(ContainerId {
+            session: 0,
+            ordinal,
+        })?;
+    }
+    Ok(ids)
+}
+
+#[test]
+fn too_many_uses(rt: HostRuntime) -> Result<(), Fail> {
+    let alloc = rt.alloc();
+    for (n, illegal) in [(4096, None), (4097, Some(2))] {
+        let mut entries = entries_of(alloc, Backups(2))?;
+        let uses = containers(alloc, n)?;
+        add(alloc, &mut entries, 0, Commit(M00, LEAST, &uses))?;
+        assert_eq!(rt; found(alloc, RULES, &entries)?, illegal);
+    }
+    Ok(())
+}
+
+#[test]
+fn sixteen_of_seventeen(rt: HostRuntime) -> Result<(), Fail> {
+    let alloc = rt.alloc();
+    for (n, illegal) in [(15, Some(2)), (16, None), (17, Some(2))] {
+        let mut objects = Vec::new(alloc);
+        for id in containers(alloc, n)? {
+            objects.push(Container(id))?;
+        }
+        let mut entries = entries_of(alloc, Backups(1))?;
+        add(alloc, &mut entries, 0, Abort(0, 17, 0))?;
+        add(alloc, &mut entries, 1, Reclaim(&objects))?;
+        assert_eq!(rt; found(alloc, RULES, &entries)?, illegal);
+    }
+    Ok(())
+}
+
+// Limits of entries and of weight, and the first entry of the reading that passes one. An unfinished session or
+// reading counts as an entry more; the choice weighs 2, the commit 1.
+fn limits() -> [(u32, u32, Option<usize>); 9] {
+    [
+        (9, 3, None),
+        (8, 3, Some(8)),
+        (7, 3, Some(6)),
+        (6, 3, Some(5)),
+        (5, 3, Some(4)),
+        (3, 3, Some(2)),
+        (1, 3, Some(0)),
+        (9, 2, Some(2)),
+        (9, 1, Some(1)),
+    ]
+}
+
+#[test]
+fn limits_that_are_passed(rt: HostRuntime) -> Result<(), Fail> {
+    let alloc = rt.alloc();
+    for (entries, weight, illegal) in limits() {
+        let rules = Rules {
+            limits: Limits { entries, weight },
+            ..RULES
+        };
+        let past = entries_of(alloc, Reading(9))?;
+        assert_eq!(rt; found(alloc, rules, &past)?, illegal, "{entries} {weight}");
     }
     Ok(())
 }
@@ -241,17 +502,15 @@ fn stat_delete_reclaim(rt: HostRuntime) -> Result<(), Fail> {
 #[test]
 fn scans(rt: HostRuntime) -> Result<(), Fail> {
     let alloc = rt.alloc();
-    let mut entries = history(alloc)?;
-    entries.truncate(10);
+    let entries = entries_of(alloc, Backups(10))?;
     assert!(rt; entries.len() <= 10);
-    let hook = Name([0; 32]);
-    let stood = standing(alloc, entries.as_slice(), &hook, 8)?;
+    let stood = standing(alloc, &entries, &H, 8)?;
     assert_eq!(rt;
         stood.as_slice(),
-        [Standing { id: M1, stamp: 6 }].as_slice()
+        [Standing { id: M10, stamp: 6 }].as_slice()
     );
-    let dead = erasable(alloc, entries.as_slice())?;
-    assert_eq!(rt; dead.as_slice(), [Object::Manifest(M0)].as_slice());
+    let dead = erasable(alloc, &entries)?;
+    assert_eq!(rt; dead.as_slice(), [M].as_slice());
     let none = totals(alloc, &[])?;
     assert_eq!(rt; none.entries, 0);
     Ok(())

@@ -37,4 +37,6 @@ mod legal_tests;
 #[cfg(test)]
 mod row_tests;
 #[cfg(test)]
+mod test_entries;
+#[cfg(test)]
 mod tests;
