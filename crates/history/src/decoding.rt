@@ -126,7 +126,7 @@ fn commit_at(alloc: Global, rest: &[u8]) -> Result<(Point, &[u8]), ReadError>
     Ok((point, rest))
 }
 
-fn are_counts(chunks: u32, bytes: u32, fresh: u32, fresh_bytes: u32) -> bool
+pub(crate) fn are_counts(chunks: u32, bytes: u32, fresh: u32, fresh_bytes: u32) -> bool
     ensures { result ≡ are_counts chunks bytes fresh fresh_bytes }
 {
     1 <= chunks

@@ -1,15 +1,17 @@
 // Whether a history is legal, entry by entry.
-ghost use Rattle.std.specs.Prelude.{◌≡◌, ◌+◌, ◌≤◌, ◌<◌, ◌^◌, ◌==◌, true, false, All, length, reverse, take, IfOk, IfNone, IfSome};
+ghost use Rattle.std.specs.Prelude.{◌≡◌, ◌+◌, ◌≤◌, ◌<◌, ◌^◌, ◌==◌, ◌&&◌, not, true, false, All, length, reverse, take, IfOk, IfNone, IfSome};
 ghost use Rattle.std.specs.Cmp.Lexicographic.{pointwise};
 ghost use Rattle.std.specs.Option.{option_eq};
 ghost use Rattle.ss_base.specs.Champions.{same_manifest};
 ghost use Rattle.history.specs.declared.entry.Entry.{Entry};
-ghost use Rattle.history.specs.TotalsOf.{objects_named};
-ghost use Rattle.history.specs.Reading.{are_counts};
-ghost use Rattle.history.specs.Need.{same_object};
-ghost use Rattle.history.specs.Legal.{same_seen, same_totals, is_allowed, may_follow, is_legal};
+ghost use Rattle.history.specs.TotalsOf.{objects_named, totals};
+ghost use Rattle.history.specs.Need.{same_object, erasable};
+ghost use Rattle.history.specs.declared.entry.Point.TheVariants.{Choose};
+ghost use Rattle.history.specs.Sessions.{is_pending, commits_of};
+ghost use Rattle.history.specs.Legal.{same_seen, same_totals, is_open_to, is_above_own, are_texts, is_allowed, may_follow, is_legal};
 
 use crate::champions_scan::champions_for;
+use crate::decoding::are_counts;
 use crate::legality::{
     are_hooks, are_texts, are_uses, is_above_own, is_open_to, is_within, reply_to_begin,
     reply_to_look,
@@ -17,8 +19,8 @@ use crate::legality::{
 use crate::need_scan::{erasable, same_object};
 use crate::session_scan::{commits_of, is_looked_by, is_pending, is_reading, retained};
 use crate::totals_scan::totals;
-use crate::{Entry, Point, Rules, Seen, Totals};
-use ss_base::{ManifestId, Memory, Object};
+use crate::{Entry, Items, Point, Rules, Seen, Totals};
+use ss_base::{ManifestId, Memory, Name, Object};
 use std::alloc::Global;
 
 fn same_manifests(a: &[ManifestId], b: &[ManifestId]) -> bool
@@ -70,15 +72,85 @@ fn same_totals(a: &Totals, b: &Totals) -> bool
         && a.entries == b.entries
 }
 
-fn are_counts(chunks: u32, bytes: u32, fresh: u32, fresh_bytes: u32) -> bool
-    ensures { result ≡ are_counts chunks bytes fresh fresh_bytes }
+#[tactic(auto, unfolding(crate::specs::Legal::is_allowed))]
+fn is_choice_allowed(
+    alloc: Global,
+    rules: &Rules,
+    before: &[Entry],
+    author: u32,
+    session: u32,
+    hooks: &Items<Name>,
+    champions: &Items<ManifestId>,
+) -> Result<bool, Memory>
+    requires bits { rules.now.bits ≤ 32 }
+    requires few { length before.now < 2 ^ 32 }
+    ensures { IfOk result (λ allowed. allowed ≡ is_allowed rules.now (reverse before.now) author (Choose session hooks.now champions.now)) }
 {
-    1 <= chunks
-        && chunks <= 4096
-        && chunks <= bytes
-        && bytes <= 45_875_200
-        && fresh <= chunks
-        && fresh_bytes <= bytes
+    let hooks = hooks.as_slice();
+    let bound = rules.standings as usize;
+    let found = champions_for(alloc, rules.champions, bound, hooks, before)?;
+    Ok(
+        is_open_to(author, session, before)
+            && !is_pending(session, before)
+            && are_hooks(rules.bits, hooks)
+            && same_manifests(champions.as_slice(), found.as_slice()),
+    )
+}
+
+// Whether the manifest is that of the segment which its session chose for last.
+fn is_next(author: u32, manifest: ManifestId, before: &[Entry]) -> bool
+    ensures { let past = reverse before.now in
+        result ≡ (is_open_to author manifest.session past && (is_pending manifest.session past && (manifest.seq == commits_of manifest.session past))) }
+{
+    is_open_to(author, manifest.session, before)
+        && is_pending(manifest.session, before)
+        && manifest.seq as usize == commits_of(manifest.session, before)
+}
+
+fn is_finish_allowed(before: &[Entry], author: u32, session: u32, containers: u32) -> bool
+    ensures { let past = reverse before.now in
+        result ≡ (is_open_to author session past && (not (is_pending session past) && is_above_own session containers past)) }
+{
+    is_open_to(author, session, before)
+        && !is_pending(session, before)
+        && is_above_own(session, containers, before)
+}
+
+fn is_abort_allowed(
+    before: &[Entry],
+    author: u32,
+    session: u32,
+    containers: u32,
+    texts: u32,
+) -> bool
+    requires { length before.now < 2 ^ 32 }
+    ensures { let past = reverse before.now in
+        result ≡ (is_open_to author session past && (is_above_own session containers past && are_texts session texts past)) }
+{
+    is_open_to(author, session, before)
+        && is_above_own(session, containers, before)
+        && are_texts(session, texts, before)
+}
+
+fn is_reclaim_allowed(
+    alloc: Global,
+    before: &[Entry],
+    objects: &Items<Object>,
+) -> Result<bool, Memory>
+    requires { length before.now < 2 ^ 32 }
+    ensures { IfOk result (λ allowed. allowed ≡ pointwise same_object objects.now (take 16 (erasable (reverse before.now)))) }
+{
+    let found = erasable(alloc, before)?;
+    Ok(same_objects(objects.as_slice(), first_sixteen(found.as_slice())))
+}
+
+fn is_stat_allowed(alloc: Global, before: &[Entry], given: &Totals) -> Result<bool, Memory>
+    requires few { length before.now < 2 ^ 32 }
+    requires named { All (λ (entry : Entry). objects_named entry.point ≤ 16) before.now }
+    ensures { IfOk result (λ allowed. allowed ≡ same_totals given.now (totals (reverse before.now))) }
+{
+    let found = totals(alloc, before)?;
+    Ok(same_totals(given, &found))
 }
 
 // Whether the point may be recorded after the entries before it.
@@ -101,21 +173,7 @@ fn is_allowed(
             session,
             hooks,
             champions,
-        } => {
-            let found = champions_for(
-                alloc,
-                rules.champions,
-                rules.standings as usize,
-                hooks.as_slice(),
-                before,
-            )?;
-            Ok(
-                is_open_to(author, *session, before)
-                    && !is_pending(*session, before)
-                    && are_hooks(rules.bits, hooks.as_slice())
-                    && same_manifests(champions.as_slice(), found.as_slice()),
-            )
-        }
+        } => is_choice_allowed(alloc, rules, before, author, *session, hooks, champions),
         Point::Commit {
             manifest,
             chunks,
@@ -125,42 +183,26 @@ fn is_allowed(
             uses,
             ..
         } => Ok(
-            is_open_to(author, manifest.session, before)
-                && is_pending(manifest.session, before)
-                && manifest.seq as usize == commits_of(manifest.session, before)
+            is_next(author, *manifest, before)
                 && are_counts(*chunks, *bytes, *fresh, *fresh_bytes)
                 && are_uses(manifest.session, before, uses.as_slice()),
         ),
         Point::Finish {
             session,
             containers,
-        } => Ok(
-            is_open_to(author, *session, before)
-                && !is_pending(*session, before)
-                && is_above_own(*session, *containers, before),
-        ),
+        } => Ok(is_finish_allowed(before, author, *session, *containers)),
         Point::Abort {
             session,
             containers,
             texts,
-        } => Ok(
-            is_open_to(author, *session, before)
-                && is_above_own(*session, *containers, before)
-                && are_texts(*session, *texts, before),
-        ),
+        } => Ok(is_abort_allowed(before, author, *session, *containers, *texts)),
         Point::Delete { name, session } => Ok(same_replies(*session, retained(name, before))),
         Point::Look { name, seen } => Ok(same_sights(*seen, reply_to_look(name, before))),
         Point::Done { reader } => {
             Ok(is_reading(*reader, before) && is_looked_by(author, *reader, before))
         }
-        Point::Reclaim { objects } => {
-            let found = erasable(alloc, before)?;
-            Ok(same_objects(objects.as_slice(), first_sixteen(found.as_slice())))
-        }
-        Point::Stat { totals: given } => {
-            let found = totals(alloc, before)?;
-            Ok(same_totals(given, &found))
-        }
+        Point::Reclaim { objects } => is_reclaim_allowed(alloc, before, objects),
+        Point::Stat { totals } => is_stat_allowed(alloc, before, totals),
     }
 }
 
