@@ -1,14 +1,17 @@
-// Writing an entry.
-ghost use Rattle.std.specs.Prelude.{◌≡◌, ◌<◌, ◌++◌, OnOk, IfOk};
-ghost use Rattle.history.specs.EntryText.{point_text, entry_text};
+// Writing an entry. Kinds with several fields have a function, which writes the byte of the kind too.
+ghost use Rattle.std.specs.Prelude.{◌≡◌, ◌<◌, ◌++◌, ◌∷◌, OnOk, IfOk, IfSome};
+ghost use Rattle.ss_base.specs.StreamName.{IsStreamName};
+ghost use Rattle.history.specs.declared.entry.Point.TheVariants.{Choose, Finish, Abort, Done, Reclaim, Stat};
+ghost use Rattle.history.specs.EntryText.{stream_name_text, reply_text, point_text, entry_text};
 ghost use Rattle.history.specs.Bounds.{PointFits, IsEntry, PointIsWithinBounds, IsWithinBounds};
 
+use crate::item::Item;
 use crate::writing::{
     put_byte, put_digest, put_fields, put_long_list, put_manifest, put_reply, put_short_list,
     put_stream_name, put_totals, put_u32,
 };
-use crate::{Entry, Point};
-use ss_base::Memory;
+use crate::{Entry, Items, Point, Totals};
+use ss_base::{ManifestId, Memory, Name, Object, StreamName};
 use std::alloc::{AllocError, Global};
 
 // Enough for the fields of any entry but a list of hooks, champions or uses, in bytes.
@@ -47,21 +50,12 @@ fn put_point(out: &mut Vec<u8>, point: &Point) -> Result<(), AllocError>
     ensures fits { OnOk result (PointFits point.now) }
 {
     match point {
-        Point::Begin { name, session } => put_fields!(out;
-            1 => put_byte;
-            name => put_stream_name;
-            session => put_reply;
-        ),
+        Point::Begin { name, session } => put_named(out, 1, name, session),
         Point::Choose {
             session,
             hooks,
             champions,
-        } => put_fields!(out;
-            2 => put_byte;
-            session => put_u32;
-            hooks => put_long_list;
-            champions => put_short_list;
-        ),
+        } => put_choose(out, session, hooks, champions),
         Point::Commit {
             manifest,
             content,
@@ -85,42 +79,111 @@ fn put_point(out: &mut Vec<u8>, point: &Point) -> Result<(), AllocError>
         Point::Finish {
             session,
             containers,
-        } => put_fields!(out;
-            4 => put_byte;
-            session => put_u32;
-            containers => put_u32;
-        ),
+        } => put_finish(out, session, containers),
         Point::Abort {
             session,
             containers,
             texts,
-        } => put_fields!(out;
-            5 => put_byte;
-            session => put_u32;
-            containers => put_u32;
-            texts => put_u32;
-        ),
-        Point::Delete { name, session } => put_fields!(out;
-            6 => put_byte;
-            name => put_stream_name;
-            session => put_reply;
-        ),
-        Point::Look { name, seen } => put_fields!(out;
-            7 => put_byte;
-            name => put_stream_name;
-            seen => put_reply;
-        ),
-        Point::Done { reader } => put_fields!(out;
-            8 => put_byte;
-            reader => put_u32;
-        ),
-        Point::Reclaim { objects } => put_fields!(out;
-            9 => put_byte;
-            objects => put_short_list;
-        ),
-        Point::Stat { totals } => put_fields!(out;
-            10 => put_byte;
-            totals => put_totals;
-        ),
+        } => put_abort(out, session, containers, texts),
+        Point::Delete { name, session } => put_named(out, 6, name, session),
+        Point::Look { name, seen } => put_named(out, 7, name, seen),
+        Point::Done { reader } => put_done(out, reader),
+        Point::Reclaim { objects } => put_reclaim(out, objects),
+        Point::Stat { totals } => put_stat(out, totals),
     }
+}
+
+// A stream's name and a reply, after the byte of their kind.
+fn put_named<T: Item>(
+    out: &mut Vec<u8>,
+    kind: u8,
+    name: &StreamName,
+    reply: &Option<T>,
+) -> Result<(), AllocError>
+    ensures text { OnOk result (out.new.items ≡ out.old.items ++ kind ∷ (stream_name_text name.now ++ reply_text T.item_text reply.now)) }
+    ensures name { OnOk result (IsStreamName name.now) }
+    ensures reply { OnOk result (IfSome reply.now T.fits) }
+{
+    put_fields!(out;
+        kind => put_byte;
+        name => put_stream_name;
+        reply => put_reply;
+    )
+}
+
+fn put_choose(
+    out: &mut Vec<u8>,
+    session: &u32,
+    hooks: &Items<Name>,
+    champions: &Items<ManifestId>,
+) -> Result<(), AllocError>
+    requires { PointIsWithinBounds (Choose session.now hooks.now champions.now) }
+    ensures text { OnOk result (out.new.items ≡ out.old.items ++ point_text (Choose session.now hooks.now champions.now)) }
+    ensures fits { OnOk result (PointFits (Choose session.now hooks.now champions.now)) }
+{
+    put_fields!(out;
+        2 => put_byte;
+        session => put_u32;
+        hooks => put_long_list;
+        champions => put_short_list;
+    )
+}
+
+fn put_finish(out: &mut Vec<u8>, session: &u32, containers: &u32) -> Result<(), AllocError>
+    ensures text { OnOk result (out.new.items ≡ out.old.items ++ point_text (Finish session.now containers.now)) }
+    ensures fits { OnOk result (PointFits (Finish session.now containers.now)) }
+{
+    put_fields!(out;
+        4 => put_byte;
+        session => put_u32;
+        containers => put_u32;
+    )
+}
+
+fn put_abort(
+    out: &mut Vec<u8>,
+    session: &u32,
+    containers: &u32,
+    texts: &u32,
+) -> Result<(), AllocError>
+    ensures text { OnOk result (out.new.items ≡ out.old.items ++ point_text (Abort session.now containers.now texts.now)) }
+    ensures fits { OnOk result (PointFits (Abort session.now containers.now texts.now)) }
+{
+    put_fields!(out;
+        5 => put_byte;
+        session => put_u32;
+        containers => put_u32;
+        texts => put_u32;
+    )
+}
+
+fn put_done(out: &mut Vec<u8>, reader: &u32) -> Result<(), AllocError>
+    ensures text { OnOk result (out.new.items ≡ out.old.items ++ point_text (Done reader.now)) }
+    ensures fits { OnOk result (PointFits (Done reader.now)) }
+{
+    put_fields!(out;
+        8 => put_byte;
+        reader => put_u32;
+    )
+}
+
+fn put_reclaim(out: &mut Vec<u8>, objects: &Items<Object>) -> Result<(), AllocError>
+    requires { PointIsWithinBounds (Reclaim objects.now) }
+    ensures text { OnOk result (out.new.items ≡ out.old.items ++ point_text (Reclaim objects.now)) }
+    ensures fits { OnOk result (PointFits (Reclaim objects.now)) }
+{
+    put_fields!(out;
+        9 => put_byte;
+        objects => put_short_list;
+    )
+}
+
+fn put_stat(out: &mut Vec<u8>, totals: &Totals) -> Result<(), AllocError>
+    ensures text { OnOk result (out.new.items ≡ out.old.items ++ point_text (Stat totals.now)) }
+    ensures fits { OnOk result (PointFits (Stat totals.now)) }
+{
+    put_fields!(out;
+        10 => put_byte;
+        totals => put_totals;
+    )
 }
