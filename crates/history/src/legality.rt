@@ -80,7 +80,7 @@ pub(crate) fn are_hooks(bits: u32, hooks: &[Name]) -> bool
     requires { bits ≤ 32 }
     ensures { result ≡ are_hooks bits hooks.now }
 {
-    is_distinct(hooks) && hooks.len() <= 4096 && all_are_hooks(bits, hooks)
+    hooks.len() <= 4096 && is_distinct(hooks) && all_are_hooks(bits, hooks)
 }
 
 #[tactic(auto, unfolding(crate::specs::Legal::is_open_to))]
