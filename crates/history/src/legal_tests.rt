@@ -224,6 +224,8 @@ fn counts_that_are_refused(rt: HostRuntime) -> Result<(), Fail> {
     Ok(())
 }
 
+// Uses that are not ascending, an own one with the ordinal 2^32 - 1, and those of other sessions that no champion of
+// the pending choice has.
 fn uses() -> [Row; 8] {
     [
         ("order", Backups(2), 0, Commit(M00, LEAST, &[C01, C00])),
@@ -365,7 +367,7 @@ fn totals_that_are_refused(rt: HostRuntime) -> Result<(), Fail> {
     all_refused(&rt, rt.alloc(), &totals_given())
 }
 
-// Entries beside those above.
+// Entries beside those above, kind by kind.
 fn allowed() -> [Row; 24] {
     [
         ("begin, unfinished", Backups(1), 1, Begin("zeros", None)),
@@ -400,8 +402,7 @@ fn entries_beside_those_that_are_refused(rt: HostRuntime) -> Result<(), Fail> {
     all_allowed(&rt, rt.alloc(), &allowed())
 }
 
-// The session chooses for so many hooks.
-fn choice_of(alloc: Global, n: u16) -> Result<Point, Fail> {
+fn distinct_hooks(alloc: Global, n: u16) -> Result<Vec<Name>, Fail> {
     let mut hooks = Vec::new(alloc);
     for i in 0..n {
         let [high, low] = i.to_be_bytes();
@@ -410,11 +411,7 @@ fn choice_of(alloc: Global, n: u16) -> Result<Point, Fail> {
         digest[1] = low;
         hooks.push(Name(digest))?;
     }
-    Ok(Point::Choose {
-        session: 0,
-        hooks: Items::new(hooks),
-        champions: Items::new(Vec::new(alloc)),
-    })
+    Ok(hooks)
 }
 
 // `rt try` takes more than a minute to tell 4,096 hooks apart.
@@ -423,8 +420,8 @@ fn too_many_hooks(rt: HostRuntime) -> Result<(), Fail> {
     let alloc = rt.alloc();
     for (n, illegal) in [(400, None), (4097, Some(1))] {
         let mut entries = entries_of(alloc, Backups(1))?;
-        let point = choice_of(alloc, n)?;
-        entries.push(Entry { author: 0, point })?;
+        let hooks = distinct_hooks(alloc, n)?;
+        add(alloc, &mut entries, 0, Choose(0, &hooks, &[]))?;
         assert_eq!(rt; found(alloc, RULES, &entries)?, illegal);
     }
     Ok(())
