@@ -12,12 +12,14 @@ overflow_add-self-2 c =
     omega (arith, length-entries c.args.self.now.entries.items before.valid, (length-entry c.args.entry c.requires.valid).1)
 
 pub returns-then-len-eq-MAX_ENTRIES-clause-full : goal.returns-then-len-eq-MAX_ENTRIES-clause-full
-returns-then-len-eq-MAX_ENTRIES-clause-full c =
-    (refl, full c.args.self.now.entries.items c.args.entry c.args.self.now.weight c.args.self.now.place c.weight_of-weight.result c.requires.before c.weight_of-weight.ensures.weight
-    (elim c.then-len-eq-MAX_ENTRIES.branch [
-      | then-len-eq-MAX_ENTRIES-via-then-len-eq-MAX_ENTRIES w ↦ inl (omega arith)
-      | then-len-eq-MAX_ENTRIES-via-else-len-eq-MAX_ENTRIES+then-weight-self w ↦ inr (omega arith)
-    ]))
+returns-then-len-eq-MAX_ENTRIES-clause-full c = (
+  refl,
+  full c.args.self.now.entries.items c.args.entry c.args.self.now.weight c.args.self.now.place c.weight_of-weight.result c.requires.before c.weight_of-weight.ensures.weight
+      (elim c.then-len-eq-MAX_ENTRIES.branch [
+        | then-len-eq-MAX_ENTRIES-via-then-len-eq-MAX_ENTRIES w ↦ inl (omega arith)
+        | then-len-eq-MAX_ENTRIES-via-else-len-eq-MAX_ENTRIES+then-weight-self w ↦ inr (omega arith)
+      ]),
+)
 
 pub returns-clause-after : goal.returns-clause-after
 returns-clause-after c =
