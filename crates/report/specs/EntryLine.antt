@@ -1,5 +1,5 @@
 -- The lines that are printed of entries (this project's own).
-use Rattle.std.specs.Prelude.{ℕ, List, [], ◌∷◌, ◌++◌, length, codes, Option, Some, None}
+use Rattle.std.specs.Prelude.{ℕ, List, [], ◌∷◌, ◌++◌, length, codes, Some, None}
 use Rattle.std.specs.List.{join_by}
 use Rattle.std.specs.Fmt.{decimal}
 use Rattle.ss_base.specs.declared.ids.ContainerId.{ContainerId}
@@ -10,11 +10,11 @@ use Rattle.history.specs.declared.entry.Entry.{Entry}
 use Rattle.history.specs.declared.entry.Point.{Point}
 use Rattle.history.specs.declared.entry.Point.TheVariants.{Begin, Choose, Commit, Finish, Abort, Delete, Look, Done, Reclaim, Stat}
 
--- mSESSION.SEQ
+-- m1.0 is the manifest of session 1 with the sequence number 0
 unfoldable pub manifest_word : ManifestId → List ℕ
 manifest_word m = codes "m" ++ decimal m.session ++ codes "." ++ decimal m.seq
 
--- cSESSION.ORDINAL
+-- c1.0 is the container of session 1 with the ordinal 0
 unfoldable pub container_word : ContainerId → List ℕ
 container_word c = codes "c" ++ decimal c.session ++ codes "." ++ decimal c.ordinal
 
@@ -23,7 +23,7 @@ unfoldable pub object_word : Object → List ℕ
 object_word (Container c) = container_word c
 object_word (Manifest m) = manifest_word m
 
--- - for no items, else their words joined by commas
+-- a dash where there are no items, else their words joined by commas
 unfoldable pub list_word : {A : Type 0} → (A → List ℕ) → List A → List ℕ
 list_word word [] = codes "-"
 list_word word (x ∷ xs) = join_by word (codes ",") (x ∷ xs)
@@ -74,6 +74,6 @@ point_words (Stat totals) =
     ++ count_words (codes "reclaimed") totals.reclaimed
     ++ count_words (codes "entries") totals.entries
 
--- the entry's number, a and its author, what is printed of its point, LF
+-- the entry's number, its author behind an a, what is printed of its point, LF
 unfoldable pub entry_line : ℕ → Entry → List ℕ
 entry_line number entry = decimal number ++ codes " a" ++ decimal entry.author ++ codes " " ++ point_words entry.point ++ codes "\n"

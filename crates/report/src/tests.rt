@@ -35,7 +35,7 @@ const C_LAST: ContainerId = ContainerId {
 };
 
 // A name of 64 bytes.
-const LONG: &'static str = "ABCDEFGHIJKLMNOPQRSTUVWXYZabcdefghijklmnopqrstuvwxyz0123456789._";
+const LONG: &str = "ABCDEFGHIJKLMNOPQRSTUVWXYZabcdefghijklmnopqrstuvwxyz0123456789._";
 
 // What an entry records, with slices for its lists.
 #[derive(Clone, Copy)]
