@@ -32,16 +32,18 @@ list_word word (x ∷ xs) = join_by word (codes ",") (x ∷ xs)
 unfoldable pub count_words : List ℕ → ℕ → List ℕ
 count_words what n = codes " " ++ what ++ codes " " ++ decimal n
 
--- what is printed of a commit: its manifest, its chunks and bytes, the fresh ones of both, its uses
+-- how many chunks are fresh, and their bytes
+unfoldable pub fresh_words : ℕ → ℕ → List ℕ
+fresh_words chunks bytes = codes " fresh " ++ decimal chunks ++ codes " " ++ decimal bytes
+
+-- what is printed of a commit: its manifest, its chunks and bytes, the fresh ones, its uses
 unfoldable pub commit_words : ManifestId → ℕ → ℕ → ℕ → ℕ → List ContainerId → List ℕ
 commit_words manifest chunks bytes fresh fresh_bytes uses =
     codes "commit "
     ++ manifest_word manifest
     ++ count_words (codes "chunks") chunks
     ++ count_words (codes "bytes") bytes
-    ++ count_words (codes "fresh") fresh
-    ++ codes " "
-    ++ decimal fresh_bytes
+    ++ fresh_words fresh fresh_bytes
     ++ codes " uses "
     ++ list_word container_word uses
 

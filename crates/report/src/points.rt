@@ -1,7 +1,7 @@
 // What is printed of a point, by a function for each kind.
 ghost use Rattle.std.specs.Prelude.{◌≡◌, ◌++◌, OnOk, string_bytes};
 ghost use Rattle.history.specs.declared.entry.Point.TheVariants.{Begin, Choose, Finish, Abort, Delete, Look, Done, Reclaim, Stat};
-ghost use Rattle.report.specs.EntryLine.{commit_words, point_words};
+ghost use Rattle.report.specs.EntryLine.{fresh_words, commit_words, point_words};
 
 use crate::names::name_text;
 use crate::words::{push_count, push_list, push_manifest};
@@ -88,9 +88,16 @@ fn push_commit(
     push_manifest(line, manifest)?;
     push_count(line, "chunks", u64::from(*chunks))?;
     push_count(line, "bytes", u64::from(*bytes))?;
-    push_count(line, "fresh", u64::from(*fresh))?;
-    write!(line, " {fresh_bytes} uses ")?;
+    push_fresh(line, *fresh, *fresh_bytes)?;
+    line.push_str(" uses ")?;
     push_list(line, uses.as_slice())
+}
+
+#[tactic(auto, unfolding(crate::specs::EntryLine::fresh_words))]
+fn push_fresh(line: &mut String, chunks: u32, bytes: u32) -> Result<(), AllocError>
+    ensures { OnOk result (string_bytes line.new ≡ string_bytes line.old ++ fresh_words chunks bytes) }
+{
+    write!(line, " fresh {chunks} {bytes}")
 }
 
 #[tactic(auto, unfolding(crate::specs::EntryLine::point_words))]
