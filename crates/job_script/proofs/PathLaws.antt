@@ -1,5 +1,5 @@
 -- The fields that are made for a file name, and that it is text.
-use Rattle.std.proofs.Common.{◌≡◌, ℕ, ◌<◌, ◌≤◌, leb, true, List, ◌++◌, length, drop, replicate, Result, Ok, Err, MatchResult, IsOk, refl, sym, ap, ◌∙◌, subst, arith}
+use Rattle.std.proofs.Common.{◌≡◌, ℕ, ◌<◌, ◌≤◌, leb, true, List, ◌++◌, length, drop, replicate, sym, ap, ◌∙◌, subst, arith}
 use Rattle.std.proofs.Math.Seq.{take-append_seam, drop-append_seam}
 use Rattle.std.proofs.lemmas.List.{drop-replicate}
 use Rattle.std.proofs.lemmas.List.Elements.{All-weaker}
@@ -30,8 +30,3 @@ visible_is_ascii b visible = let most : b ≤ 126 = leb-true b 126 (and_parts (l
 pub IsUtf8-visible : (text : List ℕ) → AllPass is_ascii_graphic text → IsUtf8 text
 IsUtf8-visible text visible =
     IsUtf8-from_ascii text (IsAscii-from_all text (All-weaker (λ b. is_ascii_graphic b ≡ true) (λ b. b < 128) visible_is_ascii text visible))
-
--- an answer that is refused for no other cause is Ok
-pub is_ok_unless : {T E : Type 0} (P : T → Type 0) (Q : E → Type 0) (R : Type 0) (r : Result T E) → MatchResult r P (λ e. (R → ⊥) × Q e) → R → IsOk r
-is_ok_unless P Q R (Ok x) cases fact = refl
-is_ok_unless P Q R (Err e) cases fact = absurd (cases.0 fact)
