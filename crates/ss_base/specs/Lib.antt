@@ -4,5 +4,10 @@ pub mod Parts
 pub mod StreamName
 pub mod ObjectName
 pub mod Padded
+pub mod Ids
+pub mod Hook
+pub mod Order
 pub mod Origins
+pub mod Standings
 pub mod Champions
+pub mod KnownObjects

@@ -1,5 +1,5 @@
 -- The numbers of the profiles (this project's own).
-use Rattle.std.specs.Prelude.{◌≡◌, ◌+◌, ◌*◌, ◌<◌, ◌≤◌}
+use Rattle.std.specs.Prelude.{ℕ, ◌≡◌, ◌+◌, ◌*◌, ◌<◌, ◌≤◌}
 use Rattle.ss_base.specs.declared.profile.Profile.{Profile}
 use Rattle.ss_base.specs.declared.profile.Profile.TheVariants.{Tiny, Small, Large}
 use Rattle.ss_base.specs.declared.profile.Numbers.{Numbers}
@@ -25,3 +25,9 @@ pub record AreSound (n : Numbers) : Type 0 where
   pub bits : n.bits ≤ 32
   pub room : n.tmax + 52 ≤ n.room
   pub container : n.room ≤ 4194304
+
+-- a profile's number, by which formats name it
+abbrev pub profile_code : Profile → ℕ
+profile_code Tiny = 1
+profile_code Small = 2
+profile_code Large = 3

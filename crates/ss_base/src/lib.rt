@@ -2,6 +2,7 @@
 //! stream names, and the numbers of the profiles. All are plain values, copied without memory.
 #![tactic(auto)]
 
+mod ended;
 mod ids;
 mod memory;
 mod name;
@@ -9,6 +10,7 @@ mod object;
 mod profile;
 mod stream_name;
 
+pub use ended::Ended;
 pub use ids::{ContainerId, ManifestId, Place, Standing};
 pub use memory::Memory;
 pub use name::{Name, Piece};
