@@ -4,4 +4,7 @@ pub mod SoundLaws
 pub mod MemberLaws
 pub mod GetLaws
 pub mod ApartLaws
+pub mod IdLaws
+pub mod OrderLaws
+pub mod StandingLaws
 mod PaddedLaws

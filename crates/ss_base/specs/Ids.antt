@@ -1,7 +1,8 @@
 -- When two names, ids or objects are the same, and when one is among others.
-use Rattle.std.specs.Prelude.{ℕ, Bool, true, false, ◌==◌, ◌&&◌, not, List, [], ◌∷◌}
+use Rattle.std.specs.Prelude.{Bool, true, false, nat_eq, ◌==◌, ◌&&◌, not, List, [], ◌∷◌}
 use Rattle.std.specs.List.{list_any}
 use Rattle.std.specs.Str.{bytes_eq}
+use Rattle.std.specs.Cmp.Lexicographic.{pointwise}
 use Rattle.ss_base.specs.declared.ids.ContainerId.{ContainerId}
 use Rattle.ss_base.specs.declared.ids.ManifestId.{ManifestId}
 use Rattle.ss_base.specs.declared.name.Name.{Name}
@@ -15,7 +16,7 @@ same_name a b = bytes_eq a.0 b.0
 
 -- whether two pieces have the same name and length
 abbrev pub same_piece : Piece → Piece → Bool
-same_piece a b = same_name a.name b.name && (a.len == b.len)
+same_piece a b = pointwise nat_eq a.name.0 b.name.0 && nat_eq a.len b.len
 
 -- whether two ids are the same
 abbrev pub same_manifest : ManifestId → ManifestId → Bool

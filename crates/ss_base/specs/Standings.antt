@@ -1,6 +1,6 @@
 -- What becomes of the list of a hook, the most recently used manifest first (FAST 2009 bounds the list of a hook; the
 -- rule on the order is this project's own).
-use Rattle.std.specs.Prelude.{ℕ, Bool, ◌==◌, not, List, [], ◌∷◌, ◌++◌, take, filter, find, filter_map, Option}
+use Rattle.std.specs.Prelude.{ℕ, ◌==◌, not, List, ◌∷◌, ◌++◌, take, filter, find, filter_map, Option}
 use Rattle.ss_base.specs.declared.ids.ManifestId.{ManifestId}
 use Rattle.ss_base.specs.declared.ids.Standing.{Standing}
 use Rattle.ss_base.specs.Ids.{same_manifest, has_manifest}
