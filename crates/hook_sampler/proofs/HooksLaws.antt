@@ -13,7 +13,9 @@ use Rattle.std.proofs.lemmas.Map.Text.{is_eq-slice_cmp}
 use Rattle.ss_base.specs.declared.name.Name.{Name}
 use Rattle.ss_base.specs.declared.name.Piece.{Piece}
 use Rattle.ss_base.specs.contracts.name.NameOrd.TheImpl.{cmp-value}
-use Rattle.hook_sampler.specs.Hooks.{same_name, is_hook, distinct, hooks}
+use Rattle.ss_base.specs.Ids.{same_name}
+use Rattle.ss_base.specs.Hook.{is_hook}
+use Rattle.hook_sampler.specs.Hooks.{distinct, hooks}
 use Rattle.hook_sampler.specs.Seen.{HasSeen}
 
 -- two names compare as equal where they are the same

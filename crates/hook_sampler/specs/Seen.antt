@@ -2,7 +2,7 @@
 use Rattle.std.specs.Prelude.{◌≡◌, List}
 use Rattle.std.specs.List.{list_any}
 use Rattle.ss_base.specs.declared.name.Name.{Name}
-use Rattle.hook_sampler.specs.Hooks.{same_name}
+use Rattle.ss_base.specs.Ids.{same_name}
 
 -- a set has just the names of a list
 pub record HasSeen (seen names : List Name) : Type 0 where

@@ -1,7 +1,7 @@
 // Names without repetition.
 ghost use Rattle.std.specs.Prelude.{◌≡◌, [], ◌∷◌, ◌++◌, OnOk, OnErr, if◌then◌else◌};
 ghost use Rattle.std.specs.List.{list_any};
-ghost use Rattle.hook_sampler.specs.Hooks.{same_name};
+ghost use Rattle.ss_base.specs.Ids.{same_name};
 
 use ss_base::{Memory, Name};
 use std::alloc::Global;

@@ -4,7 +4,7 @@
 mod distinct;
 mod sampling;
 
-pub use sampling::hooks;
+pub use sampling::{hooks, is_hook};
 
 #[cfg(test)]
 mod tests;

@@ -1,7 +1,8 @@
 // Hooks are sampled from a segment's pieces.
 ghost use Rattle.std.specs.Prelude.{◌≡◌, ◌≢◌, ◌≤◌, length, vec_len, AllPairs, IfOk};
 ghost use Rattle.std.specs.List.{AllPass};
-ghost use Rattle.hook_sampler.specs.Hooks.{is_hook, hooks};
+ghost use Rattle.ss_base.specs.Hook.{is_hook};
+ghost use Rattle.hook_sampler.specs.Hooks.{hooks};
 
 use crate::distinct::Distinct;
 use ss_base::{Memory, Name, Piece};
@@ -27,8 +28,8 @@ pub fn hooks(alloc: Global, pieces: &[Piece], bits: u32) -> Result<Vec<Name>, Me
     Ok(found.into_names())
 }
 
-// Whether the first bits bits of the name are zero.
-fn is_hook(name: &Name, bits: u32) -> bool
+/// Whether the first `bits` bits of the name are zero, of at most 32.
+pub fn is_hook(name: &Name, bits: u32) -> bool
     requires { bits ≤ 32 }
     ensures { result ≡ is_hook bits name.now }
 {

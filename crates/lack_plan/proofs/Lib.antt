@@ -1,4 +1,4 @@
 pub mod PlaceLaws
-pub mod PieceLaws
+pub mod OriginLaws
 pub mod MapLaws
 pub mod FreshLaws

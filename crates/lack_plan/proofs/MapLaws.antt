@@ -4,10 +4,11 @@ use Rattle.std.proofs.lemmas.List.{take_at, take-append-le}
 use Rattle.std.specs.HashMap.{get, HashMap, Updates}
 use Rattle.ss_base.specs.declared.name.Piece.{Piece}
 use Rattle.ss_base.specs.Origins.{LacksPiece, IsFirstPlace, IsFirstIn}
-use Rattle.lack_plan.specs.Plan.{piece_eq, HasPlace, IsKnown, IsOrigin, AreOrigins}
+use Rattle.ss_base.specs.Ids.{same_piece}
+use Rattle.lack_plan.specs.Plan.{HasPlace, IsKnown, IsOrigin, AreOrigins}
 use Rattle.lack_plan.specs.declared.origin.Origin.{Origin}
 use Rattle.lack_plan.specs.Maps.{HasPlaces, KnowsPieces, Joined}
-use Rattle.lack_plan.proofs.PieceLaws.{one_or_other}
+use Rattle.ss_base.proofs.IdLaws.{same_piece-cases}
 use Rattle.std.proofs.lemmas.Option.{slice_get_within}
 use Rattle.ss_base.proofs.GetLaws.{at_end}
 use Rattle.lack_plan.proofs.PlaceLaws.{lacks-push, first-keep, first-push, all-lack-push, first-in-push, first-in-keep}
@@ -25,24 +26,24 @@ place-none q ps None is has = has
 place-none q ps (Some i) is has = absurd (cc)
 
 module _ {S : Type 0} where
-  pub lacks-none : (ps : List Piece) (m : HashMap Piece ℕ S) (p : Piece) → get piece_eq m p ≡ None → HasPlaces ps m → LacksPiece p ps
-  lacks-none ps m p none has = place-none p ps (get piece_eq m p) none (has p)
+  pub lacks-none : (ps : List Piece) (m : HashMap Piece ℕ S) (p : Piece) → get same_piece m p ≡ None → HasPlaces ps m → LacksPiece p ps
+  lacks-none ps m p none has = place-none p ps (get same_piece m p) none (has p)
 
-  pub first-found : (ps : List Piece) (m : HashMap Piece ℕ S) (p : Piece) (i : ℕ) → get piece_eq m p ≡ Some i → HasPlaces ps m → IsFirstPlace p ps i
+  pub first-found : (ps : List Piece) (m : HashMap Piece ℕ S) (p : Piece) (i : ℕ) → get same_piece m p ≡ Some i → HasPlaces ps m → IsFirstPlace p ps i
   first-found ps m p i is has = subst (HasPlace p ps) is (has p)
 
-  pub places-found : (ps : List Piece) (m : HashMap Piece ℕ S) (p : Piece) (i : ℕ) → get piece_eq m p ≡ Some i → HasPlaces ps m → HasPlaces (ps ++ p ∷ []) m
-  places-found ps m p i is has = λ q. elim (one_or_other p q) [
-    | inl same ↦ place-found q p ps (get piece_eq m q) i (ap (λ r. get piece_eq m r) (sym same.0) ∙ is) (has q)
-    | inr other ↦ place-other q p ps (get piece_eq m q) other.0 (has q)
+  pub places-found : (ps : List Piece) (m : HashMap Piece ℕ S) (p : Piece) (i : ℕ) → get same_piece m p ≡ Some i → HasPlaces ps m → HasPlaces (ps ++ p ∷ []) m
+  places-found ps m p i is has = λ q. elim (same_piece-cases p q) [
+    | inl same ↦ place-found q p ps (get same_piece m q) i (ap (λ r. get same_piece m r) (sym same.0) ∙ is) (has q)
+    | inr other ↦ place-other q p ps (get same_piece m q) other.0 (has q)
   ]
 
-  pub places-push : (ps : List Piece) (m n : HashMap Piece ℕ S) (p : Piece) (at : ℕ) → at ≡ length ps → LacksPiece p ps → Updates piece_eq m n p (Some at) → HasPlaces ps m → HasPlaces (ps ++ p ∷ []) n
-  places-push ps m n p at is lacks updates has = λ q. elim (one_or_other p q) [
+  pub places-push : (ps : List Piece) (m n : HashMap Piece ℕ S) (p : Piece) (at : ℕ) → at ≡ length ps → LacksPiece p ps → Updates same_piece m n p (Some at) → HasPlaces ps m → HasPlaces (ps ++ p ∷ []) n
+  places-push ps m n p at is lacks updates has = λ q. elim (same_piece-cases p q) [
     | inl same ↦
-        let now : get piece_eq n q ≡ Some (length ps) = ap (λ r. get piece_eq n r) (sym same.0) ∙ updates.1 ∙ ap Some is in
+        let now : get same_piece n q ≡ Some (length ps) = ap (λ r. get same_piece n r) (sym same.0) ∙ updates.1 ∙ ap Some is in
         subst (HasPlace q (ps ++ p ∷ [])) (sym now) (subst (λ r. IsFirstPlace r (ps ++ p ∷ []) (length ps)) same.0 (first-push p ps lacks))
-    | inr other ↦ subst (HasPlace q (ps ++ p ∷ [])) (sym (updates.2 q other.1)) (place-other q p ps (get piece_eq m q) other.0 (has q))
+    | inr other ↦ subst (HasPlace q (ps ++ p ∷ [])) (sym (updates.2 q other.1)) (place-other q p ps (get same_piece m q) other.0 (has q))
   ]
 
 -- one more piece of one more list
@@ -71,27 +72,27 @@ joined-none q which None = λ i is. absurd (cc)
 joined-none q which (Some f) = refl
 
 module _ {S : Type 0} where
-  pub joins-none : (which : ℕ) (m : HashMap Piece (ℕ × ℕ) S) → (q : Piece) → Joined q which [] (get piece_eq m q) (get piece_eq m q)
-  joins-none which m = λ q. joined-none q which (get piece_eq m q)
+  pub joins-none : (which : ℕ) (m : HashMap Piece (ℕ × ℕ) S) → (q : Piece) → Joined q which [] (get same_piece m q) (get same_piece m q)
+  joins-none which m = λ q. joined-none q which (get same_piece m q)
 
-  pub joins-found : (which : ℕ) (ps : List Piece) (old m : HashMap Piece (ℕ × ℕ) S) (p : Piece) (f : ℕ × ℕ) → get piece_eq m p ≡ Some f → ((q : Piece) → Joined q which ps (get piece_eq old q) (get piece_eq m q)) → (q : Piece) → Joined q which (ps ++ p ∷ []) (get piece_eq old q) (get piece_eq m q)
-  joins-found which ps old m p f is has = λ q. elim (one_or_other p q) [
-    | inl same ↦ joined-there q p which ps (get piece_eq old q) (get piece_eq m q) f (ap (λ r. get piece_eq m r) (sym same.0) ∙ is) (has q)
-    | inr other ↦ joined-other q p which ps (get piece_eq old q) (get piece_eq m q) other.0 (has q)
+  pub joins-found : (which : ℕ) (ps : List Piece) (old m : HashMap Piece (ℕ × ℕ) S) (p : Piece) (f : ℕ × ℕ) → get same_piece m p ≡ Some f → ((q : Piece) → Joined q which ps (get same_piece old q) (get same_piece m q)) → (q : Piece) → Joined q which (ps ++ p ∷ []) (get same_piece old q) (get same_piece m q)
+  joins-found which ps old m p f is has = λ q. elim (same_piece-cases p q) [
+    | inl same ↦ joined-there q p which ps (get same_piece old q) (get same_piece m q) f (ap (λ r. get same_piece m r) (sym same.0) ∙ is) (has q)
+    | inr other ↦ joined-other q p which ps (get same_piece old q) (get same_piece m q) other.0 (has q)
   ]
 
-  pub joins-push : (which at : ℕ) (ps : List Piece) (old m n : HashMap Piece (ℕ × ℕ) S) (p : Piece) → at ≡ length ps → get piece_eq m p ≡ None → Updates piece_eq m n p (Some (which, at)) → ((q : Piece) → Joined q which ps (get piece_eq old q) (get piece_eq m q)) → (q : Piece) → Joined q which (ps ++ p ∷ []) (get piece_eq old q) (get piece_eq n q)
-  joins-push which at ps old m n p place is updates has = λ q. elim (one_or_other p q) [
+  pub joins-push : (which at : ℕ) (ps : List Piece) (old m n : HashMap Piece (ℕ × ℕ) S) (p : Piece) → at ≡ length ps → get same_piece m p ≡ None → Updates same_piece m n p (Some (which, at)) → ((q : Piece) → Joined q which ps (get same_piece old q) (get same_piece m q)) → (q : Piece) → Joined q which (ps ++ p ∷ []) (get same_piece old q) (get same_piece n q)
+  joins-push which at ps old m n p place is updates has = λ q. elim (same_piece-cases p q) [
     | inl same ↦
-        let now : get piece_eq n q ≡ Some (which, at) = ap (λ r. get piece_eq n r) (sym same.0) ∙ updates.1 in
-        let before : get piece_eq m q ≡ None = ap (λ r. get piece_eq m r) (sym same.0) ∙ is in
-        subst (Joined q which (ps ++ p ∷ []) (get piece_eq old q)) (sym now)
-        (subst (λ r. Joined q which (ps ++ r ∷ []) (get piece_eq old q) (Some (which, at))) (sym same.0) (joined-new q which at ps (get piece_eq old q) (get piece_eq m q) place before (has q)))
-    | inr other ↦ subst (Joined q which (ps ++ p ∷ []) (get piece_eq old q)) (sym (updates.2 q other.1)) (joined-other q p which ps (get piece_eq old q) (get piece_eq m q) other.0 (has q))
+        let now : get same_piece n q ≡ Some (which, at) = ap (λ r. get same_piece n r) (sym same.0) ∙ updates.1 in
+        let before : get same_piece m q ≡ None = ap (λ r. get same_piece m r) (sym same.0) ∙ is in
+        subst (Joined q which (ps ++ p ∷ []) (get same_piece old q)) (sym now)
+        (subst (λ r. Joined q which (ps ++ r ∷ []) (get same_piece old q) (Some (which, at))) (sym same.0) (joined-new q which at ps (get same_piece old q) (get same_piece m q) place before (has q)))
+    | inr other ↦ subst (Joined q which (ps ++ p ∷ []) (get same_piece old q)) (sym (updates.2 q other.1)) (joined-other q p which ps (get same_piece old q) (get same_piece m q) other.0 (has q))
   ]
 
-  pub joins-known : (which : ℕ) (lists : List (List Piece)) (ps : List Piece) (old m : HashMap Piece (ℕ × ℕ) S) → length lists ≡ which → ((q : Piece) → Joined q which ps (get piece_eq old q) (get piece_eq m q)) → KnowsPieces lists old → KnowsPieces (lists ++ ps ∷ []) m
-  joins-known which lists ps old m is has known = λ q. joined-known q which lists ps (get piece_eq old q) (get piece_eq m q) is (known q) (has q)
+  pub joins-known : (which : ℕ) (lists : List (List Piece)) (ps : List Piece) (old m : HashMap Piece (ℕ × ℕ) S) → length lists ≡ which → ((q : Piece) → Joined q which ps (get same_piece old q) (get same_piece m q)) → KnowsPieces lists old → KnowsPieces (lists ++ ps ∷ []) m
+  joins-known which lists ps old m is has known = λ q. joined-known q which lists ps (get same_piece old q) (get same_piece m q) is (known q) (has q)
 
 -- one more origin
 pub origins-push : (ps : List Piece) (lists : List (List Piece)) (os : List Origin) (p : Piece) (o : Origin) → AreOrigins ps lists os → IsOrigin ps lists p o → AreOrigins (ps ++ p ∷ []) lists (os ++ o ∷ [])

@@ -2,9 +2,11 @@
 #![tactic(auto)]
 
 mod known;
+mod laws;
 mod origin;
 mod planning;
 
+pub use laws::one_plan;
 pub use origin::Origin;
 pub use planning::lacks;
 

@@ -2,7 +2,7 @@
 ghost use Rattle.std.specs.Prelude.{◌≡◌, ◌≤◌, ◌<◌, ◌^◌, ℕ, List, [], ◌∷◌, ◌++◌, map, length, IfOk, OnOk, slice_get, Some, ◌↔◌};
 ghost use Rattle.ss_base.specs.declared.name.Piece.{Piece};
 ghost use Rattle.ss_base.specs.Origins.{IsFreshPlace};
-ghost use Rattle.lack_plan.specs.Plan.{AreOrigins, IsOrigin};
+ghost use Rattle.lack_plan.specs.Plan.{origins, AreOrigins, IsOrigin};
 ghost use Rattle.lack_plan.specs.Maps.{HasPlaces, KnowsPieces};
 
 use crate::Origin;
@@ -16,6 +16,9 @@ use std::collections::HashMap;
 pub fn lacks(alloc: Global, pieces: &[Piece], champions: &[Manifest]) -> Result<Vec<Origin>, Memory>
     requires pieces { length pieces.now ≤ 4096 }
     requires champions { length champions.now ≤ 255 }
+    ensures all { IfOk result (λ list. list.items ≡ origins pieces.now (map (λ m. m.pieces.items) champions.now)) }
+
+    // What follows from the definition.
     ensures origins { IfOk result (λ origins. AreOrigins pieces.now (map (λ m. m.pieces.items) champions.now) origins.items) }
     ensures fresh { IfOk result (λ origins. (k : ℕ) → (slice_get origins.items k ≡ Some Origin.Fresh) ↔
         IsFreshPlace pieces.now (map (λ m. m.pieces.items) champions.now) k) }

@@ -6,5 +6,6 @@ pub mod GetLaws
 pub mod ApartLaws
 pub mod IdLaws
 pub mod OrderLaws
+pub mod OriginLaws
 pub mod StandingLaws
 mod PaddedLaws

@@ -3,7 +3,9 @@ use Rattle.std.specs.List.{list_any}
 use Rattle.std.proofs.lemmas.List.{take_more, length-take}
 use Rattle.ss_base.specs.declared.name.Name.{Name}
 use Rattle.ss_base.specs.declared.name.Piece.{Piece}
-use Rattle.hook_sampler.specs.Hooks.{same_name, is_hook, distinct, hooks}
+use Rattle.ss_base.specs.Ids.{same_name}
+use Rattle.ss_base.specs.Hook.{is_hook}
+use Rattle.hook_sampler.specs.Hooks.{distinct, hooks}
 use Rattle.hook_sampler.proofs.HooksLaws.{hooks-push, AllPass-hooks, AllPairs-distinct, length-hooks}
 use Rattle.hook_sampler.proofs.sampling.hooks.Goals as goal
 use Rattle.hook_sampler.proofs.sampling.hooks.Goals.{then-is_hook+in_ok-add, else-is_hook}

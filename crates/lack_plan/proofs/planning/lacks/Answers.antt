@@ -5,6 +5,7 @@ use Rattle.ss_base.specs.declared.name.Piece.{Piece}
 use Rattle.lack_plan.specs.Plan.{AreOrigins}
 use Rattle.lack_plan.specs.Maps.{HasPlaces}
 use Rattle.lack_plan.proofs.FreshLaws.{fresh-places}
+use Rattle.lack_plan.proofs.OriginLaws.{origins-only}
 use Rattle.lack_plan.proofs.MapLaws.{origins-push}
 use Rattle.lack_plan.proofs.planning.lacks.Goals as goal
 
@@ -32,3 +33,9 @@ returns-clause-fresh c =
     let lists : List (List Piece) = map (λ (m : Manifest). m.pieces.items) c.args.champions.now in
     let all : take c.loop-at.at c.args.pieces.now ≡ c.args.pieces.now = take_all c.loop-at.at c.args.pieces.now c.loop-at-test.false in
     fresh-places c.args.pieces.now lists c.loop-at.origins.items (subst (λ ps. AreOrigins ps lists c.loop-at.origins.items) all c.loop-at.invariant.origins)
+
+pub returns-clause-all : goal.returns-clause-all
+returns-clause-all c =
+    let lists : List (List Piece) = map (λ (m : Manifest). m.pieces.items) c.args.champions.now in
+    let all : take c.loop-at.at c.args.pieces.now ≡ c.args.pieces.now = take_all c.loop-at.at c.args.pieces.now c.loop-at-test.false in
+    origins-only c.args.pieces.now lists c.loop-at.origins.items (subst (λ ps. AreOrigins ps lists c.loop-at.origins.items) all c.loop-at.invariant.origins)

@@ -1,7 +1,7 @@
 use Rattle.std.proofs.Common.{◌≡◌, true, false, cond, List, [], ◌∷◌, ◌++◌, subst, sym, ap, ◌∙◌}
 use Rattle.std.specs.List.{list_any}
 use Rattle.ss_base.specs.declared.name.Name.{Name}
-use Rattle.hook_sampler.specs.Hooks.{same_name}
+use Rattle.ss_base.specs.Ids.{same_name}
 use Rattle.hook_sampler.proofs.HooksLaws.{HasSeen-add, new_is}
 use Rattle.hook_sampler.proofs.distinct.Distinct.add.Goals as goal
 
