@@ -5,27 +5,25 @@ use Rattle.ss_base.specs.declared.ended.Ended.{Ended}
 use Rattle.ss_base.specs.declared.object.Object.{Object}
 use Rattle.ss_base.specs.declared.object.Object.TheVariants.{Container, Manifest}
 
--- n containers of a session, from an ordinal on
-abbrev pub containers_from : ℕ → ℕ → ℕ → List Object
-containers_from session from n = map (λ ordinal. Container (record { session = session; ordinal = ordinal })) (range_with_len from n)
+-- the container of a session with this ordinal, and its manifest with this seq
+abbrev pub container_at : ℕ → ℕ → Object
+container_at session ordinal = Container (record { session = session; ordinal = ordinal })
 
--- n manifests of a session, from a seq on
-abbrev pub manifests_from : ℕ → ℕ → ℕ → List Object
-manifests_from session from n = map (λ seq. Manifest (record { session = session; seq = seq })) (range_with_len from n)
+abbrev pub manifest_at : ℕ → ℕ → Object
+manifest_at session seq = Manifest (record { session = session; seq = seq })
 
--- the containers of the closed ones of these sessions, the first of which has this number
-abbrev pub containers_of : ℕ → List (Option Ended) → List Object
-containers_of session [] = []
-containers_of session (None ∷ rest) = containers_of (session + 1) rest
-containers_of session (Some ended ∷ rest) = containers_from session 0 ended.containers ++ containers_of (session + 1) rest
+-- n objects, from a number on
+abbrev pub numbered : (ℕ → Object) → ℕ → ℕ → List Object
+numbered object from n = map object (range_with_len from n)
 
--- the manifests of the closed ones of these sessions
-abbrev pub manifests_of : ℕ → List (Option Ended) → List Object
-manifests_of session [] = []
-manifests_of session (None ∷ rest) = manifests_of (session + 1) rest
-manifests_of session (Some ended ∷ rest) = manifests_from session 0 ended.texts ++ manifests_of (session + 1) rest
+-- The objects of the closed ones of these sessions, the first of which has this number: of each, as many as it had,
+-- numbered from 0.
+abbrev pub objects_of : (ℕ → ℕ → Object) → (Ended → ℕ) → ℕ → List (Option Ended) → List Object
+objects_of object count session [] = []
+objects_of object count session (None ∷ rest) = objects_of object count (session + 1) rest
+objects_of object count session (Some ended ∷ rest) = numbered (object session) 0 (count ended) ++ objects_of object count (session + 1) rest
 
--- the objects of the closed sessions, in their order, where there is an item for each session from 0 on: what it had
--- when it was closed, or none
+-- The objects of the closed sessions, in their order: the containers, then the manifests. There is an item for each
+-- session from 0 on: what it had when it was closed, or none.
 abbrev pub known_objects : List (Option Ended) → List Object
-known_objects sessions = containers_of 0 sessions ++ manifests_of 0 sessions
+known_objects sessions = objects_of container_at (λ ended. ended.containers) 0 sessions ++ objects_of manifest_at (λ ended. ended.texts) 0 sessions
