@@ -1,58 +1,27 @@
 -- Facts kept in a tree, as the numbers and the set that they are seen as.
 use Rattle.std.proofs.Common.{◌≡◌, refl, sym, ◌∙◌, ap, subst, ℕ, ◌+◌, List, [], ◌∷◌, map, Bool, true, false, cond, ◌||◌, ◌&&◌, not, Option, None, Some, inl, inr, ◌⊎◌, unwrap_or, is_some, IsTrue, arith, ◌<◌, ◌≤◌}
 use Rattle.std.specs.Option.{option_map}
-use Rattle.std.specs.declared.cmp.Ordering.{Ordering}
-use Rattle.std.specs.Ordering.{nat_cmp}
-use Rattle.std.specs.Cmp.{IsTotalOrder}
 use Rattle.std.specs.Map.{lookup}
 use Rattle.std.specs.BTreeMap as tree
 use Rattle.std.specs.FinMap as map
 use Rattle.std.specs.FinSet as set
+use Rattle.std.specs.Ordering.{nat_cmp, eq_by_cmp}
 use Rattle.std.proofs.lemmas.Cmp.{eq_by_cmp_equiv, ranked, by_ranked}
-use Rattle.std.proofs.lemmas.Map.Lookups.{CmpEqualImpliesEq, exact_pairs, exact_unsigned}
-use Rattle.std.proofs.lemmas.Map.Views.{tells_apart}
+use Rattle.ss_base.proofs.IdLaws.{same_object-self, same_object-true}
+use Rattle.ss_base.proofs.OrderLaws.{derived, derived-object_cmp, objects_total, exact_objects, objects_tied}
 use Rattle.ss_base.specs.declared.object.Object.{Object}
 use Rattle.ss_base.specs.declared.object.Object.TheVariants.{Container, Manifest}
-use Rattle.ss_base.specs.contracts.object.ObjectOrd.TheImpl as object_ord
-use Rattle.ss_base.specs.contracts.object.ObjectOrd.TheImpl.Laws.{total-law}
 use Rattle.pins_counts.specs.declared.fact.Fact.{Fact}
-use Rattle.pins_counts.specs.Order.{object_cmp, same_object}
+use Rattle.ss_base.specs.Ids.{same_object}
+use Rattle.ss_base.specs.Order.{object_cmp}
 use Rattle.pins_counts.specs.Facts.{numbers_of, gone_of, is_gone_fact, fact_at, fact_or_nothing, nothing, OneSet, gone_in, run_in, Claims, IsSound, place_of, at_place, seen_in, gone_now}
 use Rattle.pins_counts.specs.declared.fact.Run.{Run}
-
--- the order that the derive gives
-abbrev pub derived : Object → Object → Ordering
-derived = (object_ord.ghosts).cmp
-
-derived_is : (x y : Object) → derived x y ≡ object_cmp x y
-derived_is (Container c) (Container d) = refl
-derived_is (Container c) (Manifest n) = refl
-derived_is (Manifest m) (Container d) = refl
-derived_is (Manifest m) (Manifest n) = refl
-
-pub derived-object_cmp : derived ≡ object_cmp
-derived-object_cmp i x y = derived_is x y i
-
--- the order of objects is total
-pub objects_total : IsTotalOrder object_cmp
-objects_total = subst IsTotalOrder derived-object_cmp total-law
-
--- objects that compare alike are one
-pub exact_objects : CmpEqualImpliesEq object_cmp
-exact_objects (Container c) (Container d) h = ap (λ (p : ℕ × ℕ). Container (record { session = p.0; ordinal = p.1 })) (exact_pairs nat_cmp nat_cmp exact_unsigned exact_unsigned (c.session, c.ordinal) (d.session, d.ordinal) h)
-exact_objects (Container c) (Manifest n) h = cc
-exact_objects (Manifest m) (Container d) h = cc
-exact_objects (Manifest m) (Manifest n) h = ap (λ (p : ℕ × ℕ). Manifest (record { session = p.0; seq = p.1 })) (exact_pairs nat_cmp nat_cmp exact_unsigned exact_unsigned (m.session, m.seq) (n.session, n.seq) h)
-
--- an object is itself
-pub same_itself : (k : Object) → same_object k k ≡ true
-same_itself k = (eq_by_cmp_equiv objects_total).refl k
 
 -- two objects are one or not
 pub one_or_other : (q k : Object) → (q ≡ k) ⊎ (same_object q k ≡ false)
 one_or_other q k =
     elim (same_object q k) as (λ b. same_object q k ≡ b → (q ≡ k) ⊎ (same_object q k ≡ false)) [
-      | true ↦ λ e. inl (tells_apart exact_objects q k e)
+      | true ↦ λ e. inl (same_object-true q k e)
       | false ↦ λ e. inr e
     ] refl
 
@@ -77,7 +46,7 @@ cond_gone true false f o e = sym e
 cond_gone false true f o e = refl
 cond_gone false false f o e = refl
 
-contains-cond : (gone : Bool) (s : set.FinSet object_cmp) (k q : Object) → set.contains (cond gone (set.insert s k) (set.remove s k)) q ≡ cond gone (same_object q k || set.contains s q) (not (same_object q k) && set.contains s q)
+contains-cond : (gone : Bool) (s : set.FinSet object_cmp) (k q : Object) → set.contains (cond gone (set.insert s k) (set.remove s k)) q ≡ cond gone (eq_by_cmp object_cmp q k || set.contains s q) (not (eq_by_cmp object_cmp q k) && set.contains s q)
 contains-cond true s k q = set.contains-insert objects_total s k q
 contains-cond false s k q = set.contains-remove objects_total s k q
 
@@ -85,8 +54,8 @@ contains-entries : (es : List (Object × Fact)) (q : Object) → set.contains (g
 contains-entries [] q = set.contains-empty object_cmp q
 contains-entries (e ∷ es) q =
     contains-cond (is_gone_fact e.1) (gone_of es) e.0 q
-    ∙ ap (λ b. cond (is_gone_fact e.1) (same_object q e.0 || b) (not (same_object q e.0) && b)) (contains-entries es q)
-    ∙ cond_gone (same_object q e.0) (is_gone_fact e.1) e.1 (lookup (tree.is_at (object_cmp q)) es) refl
+    ∙ ap (λ b. cond (is_gone_fact e.1) (eq_by_cmp object_cmp q e.0 || b) (not (eq_by_cmp object_cmp q e.0) && b)) (contains-entries es q)
+    ∙ cond_gone (eq_by_cmp object_cmp q e.0) (is_gone_fact e.1) e.1 (lookup (tree.is_at (object_cmp q)) es) refl
 
 -- which objects are gone
 pub contains-gone_of : (m : tree.BTreeMap Object Fact) (q : Object) → set.contains (gone_of m.entries) q ≡ gone_in (fact_at m q)
@@ -98,7 +67,7 @@ one_set m n k w updates =
     let u : tree.UpdatesBy object_cmp (object_cmp k) m n (Some w) = subst (λ R. tree.UpdatesBy R (R k) m n (Some w)) derived-object_cmp updates in
     record {
       here = u.1;
-      other = λ q apart. u.2 q ((eq_by_cmp_equiv objects_total).symm k q ∙ apart);
+      other = λ q apart. u.2 q ((eq_by_cmp_equiv objects_total).symm k q ∙ objects_tied q k ∙ apart);
     }
 
 -- what holds at one object and at each other holds at all
@@ -136,7 +105,7 @@ module _ (m n : tree.BTreeMap Object Fact) (k : Object) (w : Fact) (set_to : One
   number_added more q =
       number_is n q
       ∙ by_object (λ q. number_in (fact_at n q) ≡ number_in (fact_at m q) + cond (same_object q k) 1 0) k
-      (ap number_in set_to.here ∙ more ∙ ap (λ b. number_in (fact_at m k) + cond b 1 0) (sym (same_itself k)))
+      (ap number_in set_to.here ∙ more ∙ ap (λ b. number_in (fact_at m k) + cond b 1 0) (sym (same_object-self k)))
       (λ q apart. no_more _ _ (ap number_in (set_to.other q apart)) ∙ ap (λ b. number_in (fact_at m q) + cond b 1 0) (sym apart)) q
       ∙ ap (λ x. x + cond (same_object q k) 1 0) (sym (number_is m q))
 
@@ -146,7 +115,7 @@ module _ (m n : tree.BTreeMap Object Fact) (k : Object) (w : Fact) (set_to : One
   number_taken more q =
       number_is m q
       ∙ by_object (λ q. number_in (fact_at m q) ≡ number_in (fact_at n q) + cond (same_object q k) 1 0) k
-      (more ∙ (λ i. number_in (sym set_to.here i) + cond (sym (same_itself k) i) 1 0))
+      (more ∙ (λ i. number_in (sym set_to.here i) + cond (sym (same_object-self k) i) 1 0))
       (λ q apart. no_more _ _ (ap number_in (sym (set_to.other q apart))) ∙ ap (λ b. number_in (fact_at n q) + cond b 1 0) (sym apart)) q
       ∙ ap (λ x. x + cond (same_object q k) 1 0) (sym (number_is n q))
 
@@ -176,7 +145,7 @@ module _ (m n : tree.BTreeMap Object Fact) (k : Object) (w : Fact) (set_to : One
   ready_made q =
       ready_is n q
       ∙ by_object (λ q. is_some (fact_at n q) ≡ (same_object q k || is_some (fact_at m q))) k
-      (ap is_some set_to.here ∙ ap (λ b. b || is_some (fact_at m k)) (sym (same_itself k)))
+      (ap is_some set_to.here ∙ ap (λ b. b || is_some (fact_at m k)) (sym (same_object-self k)))
       (λ q apart. ap is_some (set_to.other q apart) ∙ ap (λ b. b || is_some (fact_at m q)) (sym apart)) q
       ∙ ap (λ b. same_object q k || b) (sym (ready_is m q))
 
@@ -339,7 +308,7 @@ module _ (m n : tree.BTreeMap Object Fact) (k : Object) (others : (q : Object) �
   gone_marked there q =
       contains-gone_of n q
       ∙ by_object (λ q. gone_in (fact_at n q) ≡ (gone_in (fact_at m q) || same_object q k)) k
-      (gone_seen (fact_at n k) ∙ ap flag_of here ∙ now_gone (fact_at m k) there ∙ sym (or_true (gone_in (fact_at m k))) ∙ ap (λ b. gone_in (fact_at m k) || b) (sym (same_itself k)))
+      (gone_seen (fact_at n k) ∙ ap flag_of here ∙ now_gone (fact_at m k) there ∙ sym (or_true (gone_in (fact_at m k))) ∙ ap (λ b. gone_in (fact_at m k) || b) (sym (same_object-self k)))
       (λ q apart. same_gone _ _ (others q apart) ∙ sym (or_false (gone_in (fact_at m q))) ∙ ap (λ b. gone_in (fact_at m q) || b) (sym apart)) q
       ∙ ap (λ b. b || same_object q k) (sym (contains-gone_of m q))
 

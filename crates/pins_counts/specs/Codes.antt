@@ -6,7 +6,7 @@ use Rattle.std.specs.FinMap as map
 use Rattle.std.specs.FinSet as set
 use Rattle.ss_base.specs.declared.object.Object.{Object}
 use Rattle.ss_base.specs.declared.object.Object.TheVariants.{Container, Manifest}
-use Rattle.pins_counts.specs.declared.kind.Ended.{Ended}
+use Rattle.ss_base.specs.declared.ended.Ended.{Ended}
 use Rattle.pins_counts.specs.Counts.{Counted}
 
 abbrev pub numbers_from : Object → (ℕ × ℕ) ⊎ (ℕ × ℕ)

@@ -3,14 +3,15 @@ use Rattle.std.specs.Prelude.{ℕ, ◌+◌, ◌==◌, Bool, not, ◌&&◌, cond,
 use Rattle.std.specs.List.{range_with_len}
 use Rattle.std.specs.FinMap as map
 use Rattle.std.specs.FinSet as set
+use Rattle.ss_base.specs.KnownObjects.{container_at, manifest_at, known_objects}
+use Rattle.ss_base.specs.Order.{object_cmp}
+use Rattle.ss_base.specs.declared.ended.Ended.{Ended}
 use Rattle.ss_base.specs.declared.ids.ContainerId.{ContainerId}
 use Rattle.ss_base.specs.declared.ids.ManifestId.{ManifestId}
 use Rattle.ss_base.specs.declared.object.Object.{Object}
 use Rattle.ss_base.specs.declared.object.Object.TheVariants.{Container, Manifest}
-use Rattle.pins_counts.specs.declared.kind.Ended.{Ended}
 use Rattle.pins_counts.specs.declared.kind.Kind.{Kind}
 use Rattle.pins_counts.specs.declared.kind.Kind.TheVariants.{Containers, Manifests}
-use Rattle.pins_counts.specs.Order.{object_cmp}
 
 -- What is counted: the number of each object that has room for one, per session what it had when it was closed, the
 -- objects that are gone, and how many sessions may be added.
@@ -50,27 +51,13 @@ containers ids = map (λ id. Container id) ids
 
 -- the object of this kind with this number in the session
 abbrev pub object_of : Kind → ℕ → ℕ → Object
-object_of Containers session n = Container (record { session = session; ordinal = n })
-object_of Manifests session n = Manifest (record { session = session; seq = n })
+object_of Containers = container_at
+object_of Manifests = manifest_at
 
 -- how many of this kind a closed session has
 abbrev pub count_of : Kind → Ended → ℕ
 count_of Containers ended = ended.containers
 count_of Manifests ended = ended.texts
-
--- n objects of one kind and session, from a number on
-abbrev pub objects_of : Kind → ℕ → ℕ → ℕ → List Object
-objects_of kind session from n = map (object_of kind session) (range_with_len from n)
-
--- of this kind, the objects of the closed ones of these sessions, the first of which has this number
-abbrev pub objects_from : Kind → ℕ → List (Option Ended) → List Object
-objects_from kind session [] = []
-objects_from kind session (None ∷ rest) = objects_from kind (session + 1) rest
-objects_from kind session (Some ended ∷ rest) = objects_of kind session 0 (count_of kind ended) ++ objects_from kind (session + 1) rest
-
--- the objects of the closed sessions, in their order
-abbrev pub known : List (Option Ended) → List Object
-known sessions = objects_from Containers 0 sessions ++ objects_from Manifests 0 sessions
 
 -- whether the object is not gone and has the number 0
 abbrev pub is_idle : Counted → Object → Bool
@@ -78,4 +65,4 @@ is_idle counted object = not (is_gone counted object) && (number counted object 
 
 -- the objects of the closed sessions that are not gone and that nothing needs, in their order
 abbrev pub dead_objects : Counted → List Object
-dead_objects counted = filter (is_idle counted) (known counted.sessions)
+dead_objects counted = filter (is_idle counted) (known_objects counted.sessions)

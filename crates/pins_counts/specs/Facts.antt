@@ -7,7 +7,8 @@ use Rattle.ss_base.specs.declared.object.Object.{Object}
 use Rattle.ss_base.specs.declared.object.Object.TheVariants.{Container, Manifest}
 use Rattle.pins_counts.specs.declared.fact.Fact.{Fact}
 use Rattle.pins_counts.specs.declared.fact.Run.{Run}
-use Rattle.pins_counts.specs.Order.{object_cmp, same_object}
+use Rattle.ss_base.specs.Ids.{same_object}
+use Rattle.ss_base.specs.Order.{object_cmp}
 
 -- what the tree has at an object
 abbrev pub fact_at : tree.BTreeMap Object Fact → Object → Option Fact

@@ -1,4 +1,3 @@
-pub mod Order
 pub mod Counts
 pub mod Facts
 pub mod Codes

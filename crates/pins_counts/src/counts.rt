@@ -6,13 +6,15 @@ ghost use Rattle.std.specs.FinSet as set;
 ghost use Rattle.std.specs.Ordering.{eq_by_cmp};
 ghost use Rattle.ss_base.specs.declared.object.Object.{Object as Stored};
 ghost use Rattle.ss_base.specs.declared.object.Object.TheVariants.{Container, Manifest};
-ghost use Rattle.pins_counts.specs.Order.{object_cmp, same_object, is_among};
-ghost use Rattle.pins_counts.specs.Counts.{number, use_number, hold_number, is_ready, is_gone, one_if, containers, objects_of, objects_from, count_of, is_idle, dead_objects};
+ghost use Rattle.ss_base.specs.Ids.{same_object, has_object};
+ghost use Rattle.ss_base.specs.KnownObjects.{numbered, objects_of};
+ghost use Rattle.ss_base.specs.Order.{object_cmp};
+ghost use Rattle.pins_counts.specs.Counts.{number, use_number, hold_number, is_ready, is_gone, one_if, containers, object_of, count_of, is_idle, dead_objects};
 
 use crate::fact::{Fact, fact_of, make_fact, set_fact};
-use crate::kind::{Ended, Kind};
+use crate::kind::Kind;
 use crate::run::{after_gone, set_gone};
-use ss_base::{ContainerId, ManifestId, Memory, Object};
+use ss_base::{ContainerId, Ended, ManifestId, Memory, Object};
 use std::alloc::Global;
 use std::collections::BTreeMap;
 use std::marker::Model;
@@ -92,7 +94,7 @@ impl Counts {
     /// Makes room for the numbers of these containers and of the manifest. What was ready stays so, also after want of
     /// memory.
     pub fn make_room(&mut self, uses: &[ContainerId], id: ManifestId) -> Result<(), Memory>
-        ensures ok { OnOk result ((q : Stored) → IsTrue (is_among q (Manifest id ∷ containers uses.now)) → IsTrue (is_ready self.new q)) }
+        ensures ok { OnOk result ((q : Stored) → IsTrue (has_object q (Manifest id ∷ containers uses.now)) → IsTrue (is_ready self.new q)) }
         ensures kept { (q : Stored) → IsTrue (is_ready self.old q) → IsTrue (is_ready self.new q) }
         ensures numbers { (q : Stored) → number self.new q ≡ number self.old q }
         ensures rest { self.new ≡ record self.old { numbers = self.new.numbers } }
@@ -137,7 +139,7 @@ impl Counts {
         requires distinct { IsDistinct (eq_by_cmp object_cmp) (containers uses.now) }
         requires ready { All (λ c. IsTrue (is_ready self.old (Container c))) uses.now }
         requires below { All (λ c. use_number self.old c < 2 ^ 32 - 1) uses.now }
-        ensures numbers { (q : Stored) → number self.new q ≡ number self.old q + one_if (is_among q (containers uses.now)) }
+        ensures numbers { (q : Stored) → number self.new q ≡ number self.old q + one_if (has_object q (containers uses.now)) }
         ensures ready { (q : Stored) → is_ready self.new q ≡ is_ready self.old q }
         ensures rest { self.new ≡ record self.old { numbers = self.new.numbers } }
     {
@@ -151,7 +153,7 @@ impl Counts {
         requires distinct { IsDistinct (eq_by_cmp object_cmp) (containers uses.now) }
         requires ready { All (λ c. IsTrue (is_ready self.old (Container c))) uses.now }
         requires above { All (λ c. 0 < use_number self.old c) uses.now }
-        ensures numbers { (q : Stored) → number self.old q ≡ number self.new q + one_if (is_among q (containers uses.now)) }
+        ensures numbers { (q : Stored) → number self.old q ≡ number self.new q + one_if (has_object q (containers uses.now)) }
         ensures ready { (q : Stored) → is_ready self.new q ≡ is_ready self.old q }
         ensures rest { self.new ≡ record self.old { numbers = self.new.numbers } }
     {
@@ -172,7 +174,7 @@ impl Counts {
 
     /// Adds these objects to those that are gone. After want of memory none is added, and what was ready stays so.
     pub fn mark_gone(&mut self, objects: &[Object]) -> Result<(), Memory>
-        ensures ok { OnOk result ((q : Stored) → is_gone self.new q ≡ (is_gone self.old q || is_among q objects.now)) }
+        ensures ok { OnOk result ((q : Stored) → is_gone self.new q ≡ (is_gone self.old q || has_object q objects.now)) }
         ensures err { OnErr result (self.new.gone ≡ self.old.gone) }
         ensures kept { (q : Stored) → IsTrue (is_ready self.old q) → IsTrue (is_ready self.new q) }
         ensures numbers { (q : Stored) → number self.new q ≡ number self.old q }
@@ -237,7 +239,7 @@ impl Counts {
     // Adds these objects, whose numbers have room, to those that are gone.
     fn mark_all(&mut self, objects: &[Object])
         requires { All (λ object. IsTrue (is_ready self.old object)) objects.now }
-        ensures gone { (q : Stored) → is_gone self.new q ≡ (is_gone self.old q || is_among q objects.now) }
+        ensures gone { (q : Stored) → is_gone self.new q ≡ (is_gone self.old q || has_object q objects.now) }
         ensures rest { self.new ≡ record self.old { gone = self.new.gone } }
     {
         for object in objects {
@@ -273,7 +275,7 @@ impl Counts {
     // Adds what is dead of one kind, until `limit` are found.
     fn add_dead(&self, kind: Kind, limit: usize, found: &mut Vec<Object>) -> Result<(), Memory>
         requires { vec_len found.old ≤ limit }
-        ensures { OnOk result (found.new.items ≡ take limit (found.old.items ++ filter (is_idle self.now) (objects_from kind 0 self.now.sessions))) }
+        ensures { OnOk result (found.new.items ≡ take limit (found.old.items ++ filter (is_idle self.now) (objects_of (object_of kind) (count_of kind) 0 self.now.sessions))) }
     {
         for (session, ended) in self.sessions.iter().enumerate() {
             if let Some(ended) = ended {
@@ -293,7 +295,7 @@ impl Counts {
         found: &mut Vec<Object>,
     ) -> Result<(), Memory>
         requires { vec_len found.old ≤ limit }
-        ensures { OnOk result (found.new.items ≡ take limit (found.old.items ++ filter (is_idle self.now) (objects_of kind session 0 count))) }
+        ensures { OnOk result (found.new.items ≡ take limit (found.old.items ++ filter (is_idle self.now) (numbered (object_of kind session) 0 count))) }
     {
         let mut next = 0;
         while next < count && found.len() < limit {

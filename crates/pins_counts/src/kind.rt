@@ -1,15 +1,8 @@
-// The two kinds of object, and what a closed session has of each.
+// The two kinds of object.
 ghost use Rattle.std.specs.Prelude.{◌≡◌};
 ghost use Rattle.pins_counts.specs.Counts.{object_of, count_of};
 
-use ss_base::{ContainerId, ManifestId, Object};
-
-/// What a session had when it was closed: its containers and its manifests' texts, each numbered from 0.
-#[derive(Clone, Copy, Debug, PartialEq, Eq)]
-pub struct Ended {
-    pub containers: u32,
-    pub texts: u32,
-}
+use ss_base::{ContainerId, Ended, ManifestId, Object};
 
 #[derive(Clone, Copy)]
 pub(crate) enum Kind {

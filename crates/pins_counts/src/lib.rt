@@ -8,7 +8,7 @@ mod kind;
 mod run;
 
 pub use counts::Counts;
-pub use kind::Ended;
+pub use ss_base::Ended;
 
 #[cfg(test)]
 mod tests;

@@ -1,7 +1,7 @@
 // Runs of objects that are gone: of one kind and session, next to each other.
 ghost use Rattle.std.specs.Prelude.{◌≡◌, ℕ, ◌≤◌, ◌<◌, true, false, IsSome};
 ghost use Rattle.ss_base.specs.declared.object.Object.{Object as Stored};
-ghost use Rattle.pins_counts.specs.Order.{same_object};
+ghost use Rattle.ss_base.specs.Ids.{same_object};
 ghost use Rattle.pins_counts.specs.Facts.{fact_at, place_of, at_place, gone_in, seen_in, gone_now, IsSound};
 
 use crate::fact::{Fact, Run, fact_of, set_fact};

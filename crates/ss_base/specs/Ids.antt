@@ -44,7 +44,7 @@ unfoldable pub has_container : ContainerId → List ContainerId → Bool
 has_container id ids = list_any (same_container id) ids
 
 -- whether the object is one of the objects
-unfoldable pub has_object : Object → List Object → Bool
+abbrev pub has_object : Object → List Object → Bool
 has_object object objects = list_any (same_object object) objects
 
 -- whether no name stands twice

@@ -2,7 +2,8 @@ use Rattle.std.proofs.Common.{sym, ◌∙◌, ap, subst}
 use Rattle.std.specs.Option.{is_some}
 use Rattle.std.specs.BTreeMap as tree
 use Rattle.pins_counts.specs.Facts.{fact_at, nothing, OneSet}
-use Rattle.pins_counts.proofs.FactLaws.{derived-object_cmp, one_set, nothing_there}
+use Rattle.ss_base.proofs.OrderLaws.{derived-object_cmp}
+use Rattle.pins_counts.proofs.FactLaws.{one_set, nothing_there}
 use Rattle.pins_counts.proofs.fact.make_fact.Goals as goal
 
 pub returns-in_ok-insert-clause-ok : goal.returns-in_ok-insert-clause-ok

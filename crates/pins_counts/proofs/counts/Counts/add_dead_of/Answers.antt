@@ -1,5 +1,6 @@
 use Rattle.std.proofs.Common.{◌≡◌, sym, ◌∙◌, ap, subst, ◌+◌, ◌-◌, ◌<◌, ◌≤◌, ℕ, false, true, not, ◌&&◌, ◌==◌, take, filter, ◌++◌, ◌∷◌, [], arith}
-use Rattle.pins_counts.specs.Counts.{number, is_gone, object_of, objects_of, is_idle}
+use Rattle.ss_base.specs.KnownObjects.{numbered}
+use Rattle.pins_counts.specs.Counts.{number, is_gone, object_of, is_idle}
 use Rattle.pins_counts.specs.Facts.{place_of, at_place, gone_in, fact_at}
 use Rattle.pins_counts.proofs.FactLaws.{gone_seen_at}
 use Rattle.pins_counts.proofs.WalkLaws.{Finds, first_of, finds_one, finds_none, passed_to, place_in, own_place}
@@ -15,8 +16,8 @@ loop-next-preserved c =
     let next = c.loop-next.next in
     let after = c.after_gone-next.result in
     let x = object_of kind session next in
-    let xs = objects_of kind session (next + 1) (count - (next + 1)) in
-    let goal = take c.args.limit (c.args.found.now.items ++ filter idle (objects_of kind session 0 count)) in
+    let xs = numbered (object_of kind session) (next + 1) (count - (next + 1)) in
+    let goal = take c.args.limit (c.args.found.now.items ++ filter idle (numbered (object_of kind session) 0 count)) in
     let so = subst (λ ys. Finds c.args.limit c.loop-next.found.items (filter idle ys) goal) (first_of kind session next count (omega arith)) c.loop-next.invariant.1 in
     let is = c.is_idle.ensures ∙ ap idle c.object-object.ensures in
     let place : place_of c.object-object.result ≡ next = ap place_of c.object-object.ensures ∙ own_place kind session next in

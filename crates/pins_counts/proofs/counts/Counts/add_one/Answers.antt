@@ -1,5 +1,5 @@
 use Rattle.std.proofs.Common.{rules, ◌∙◌, ap, ◌+◌, cond}
-use Rattle.pins_counts.specs.Order.{same_object}
+use Rattle.ss_base.specs.Ids.{same_object}
 use Rattle.pins_counts.specs.Counts.{number, is_ready}
 use Rattle.pins_counts.specs.Facts.{numbers_of, is_gone_fact, fact_at}
 use Rattle.pins_counts.proofs.FactLaws.{sound_kept, run_of_nothing, number_added, ready_kept, gone_kept, room_for, number_here, number_of_nothing, gone_of_nothing}

@@ -1,5 +1,5 @@
 use Rattle.std.proofs.Common.{◌∙◌, ap, ◌||◌}
-use Rattle.pins_counts.specs.Order.{same_object}
+use Rattle.ss_base.specs.Ids.{same_object}
 use Rattle.pins_counts.specs.Counts.{number, is_ready}
 use Rattle.pins_counts.specs.Facts.{numbers_of, fact_at}
 use Rattle.pins_counts.proofs.FactLaws.{sound_kept, sound_same, run_of_nothing, ready_made, number_kept, gone_kept, number_of_nothing, gone_of_nothing}

@@ -1,5 +1,5 @@
 use Rattle.std.proofs.Common.{◌∙◌, ap, ◌||◌}
-use Rattle.pins_counts.specs.Order.{same_object}
+use Rattle.ss_base.specs.Ids.{same_object}
 use Rattle.pins_counts.specs.Counts.{is_ready, is_gone}
 use Rattle.pins_counts.specs.Facts.{gone_of}
 use Rattle.pins_counts.proofs.FactLaws.{room_for, numbers_marked, gone_marked}
