@@ -5,7 +5,7 @@ ghost use Rattle.ss_base.specs.declared.ids.ContainerId.{ContainerId};
 ghost use Rattle.container_file.specs.Chunk.{Chunk, IsChunk, the_chunk};
 ghost use Rattle.container_file.specs.Text.{header, record_text, HasNoRecord};
 
-use ss_base::{ContainerId, Memory, Name, Piece};
+use ss_base::{ContainerId, Memory, Piece, read_fields, read_name, read_number, write_name, write_number};
 
 const MAGIC: [u8; 4] = *b"SSC1";
 
@@ -13,39 +13,21 @@ pub const HEADER: u32 = 16;
 
 pub const RECORD: u32 = 36;
 
-// Reads or writes fields one behind another, one line a field: its name, how it is read, and its size in bytes; or
-// its bytes.
-macro_rules! fields {
-    (read $text:ident; $($field:ident: $read:ident of $size:literal,)+) => {
-        $(
-            let (part, $text) = $text.split_at($size);
-            let $field = $read(part);
-        )+
-    };
-    (write $out:ident; $($bytes:expr,)+) => {
-        $($out.extend_from_slice($bytes.as_slice())?;)+
-    };
-}
-
 pub fn write_header(out: &mut Vec<u8>, id: ContainerId) -> Result<(), Memory>
     ensures { OnOk result (out.new.items ≡ out.old.items ++ header id) }
 {
-    fields!(write out;
-        MAGIC,
-        id.session.to_be_bytes(),
-        id.ordinal.to_be_bytes(),
-        0u32.to_be_bytes(),
-    );
+    out.extend_from_slice(MAGIC.as_slice())?;
+    write_number(out, id.session)?;
+    write_number(out, id.ordinal)?;
+    write_number(out, 0)?;
     Ok(())
 }
 
 pub fn write_record(out: &mut Vec<u8>, piece: Piece, chunk: &[u8]) -> Result<(), Memory>
     ensures { OnOk result (out.new.items ≡ out.old.items ++ record_text (the_chunk piece chunk.now)) }
 {
-    fields!(write out;
-        piece.len.to_be_bytes(),
-        piece.name.0,
-    );
+    write_number(out, piece.len)?;
+    write_name(out, piece.name)?;
     out.extend_from_slice(chunk)?;
     Ok(())
 }
@@ -56,7 +38,7 @@ pub fn read_header(text: &[u8]) -> Option<ContainerId>
     ensures found { IfSome result (λ id. header id ≡ text.now) }
     ensures none { IfNone result ((id : ContainerId) → header id ≢ text.now) }
 {
-    fields!(read text;
+    read_fields!(text;
         magic: read_number of 4,
         session: read_number of 4,
         ordinal: read_number of 4,
@@ -92,25 +74,9 @@ fn read_piece(text: &[u8]) -> Piece
     ensures text { to_be_bytes w32 result.len ++ result.name.0 ≡ text.now }
     ensures name { length result.name.0 ≡ 32 }
 {
-    fields!(read text;
+    read_fields!(text;
         len: read_number of 4,
         name: read_name of 32,
     );
     Piece { name, len }
-}
-
-fn read_name(text: &[u8]) -> Name
-    requires { length text.now ≡ 32 }
-    ensures { result.0 ≡ text.now }
-{
-    let mut bytes = [0; 32];
-    bytes.copy_from_slice(text);
-    Name(bytes)
-}
-
-fn read_number(text: &[u8]) -> u32
-    requires { length text.now ≡ 4 }
-    ensures { to_be_bytes w32 result ≡ text.now }
-{
-    u32::from_be_bytes([text[0], text[1], text[2], text[3]])
 }

@@ -1,14 +1,9 @@
 -- The containers of a manifest (this project's own).
 use Rattle.std.specs.Prelude.{List, map, Contains}
-use Rattle.std.specs.Ordering.{nat_cmp, ordering_then}
-use Rattle.std.specs.declared.cmp.Ordering.{Ordering}
 use Rattle.std.specs.List.Sorted.{IsStrictlySortedBy}
 use Rattle.ss_base.specs.declared.ids.ContainerId.{ContainerId}
 use Rattle.ss_base.specs.declared.ids.Place.{Place}
-
--- containers by session, and in a session by ordinal
-abbrev pub container_cmp : ContainerId → ContainerId → Ordering
-container_cmp a b = ordering_then (nat_cmp a.session b.session) (nat_cmp a.ordinal b.ordinal)
+use Rattle.ss_base.specs.Order.{container_cmp}
 
 -- just the containers of the places, ascending, each once
 pub record AreContainers (places : List Place) (ids : List ContainerId) : Type 0 where

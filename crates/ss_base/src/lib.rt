@@ -3,6 +3,7 @@
 #![tactic(auto)]
 
 mod ended;
+mod fields;
 mod ids;
 mod memory;
 mod name;
@@ -11,6 +12,7 @@ mod profile;
 mod stream_name;
 
 pub use ended::Ended;
+pub use fields::{read_name, read_number, write_name, write_number};
 pub use ids::{ContainerId, ManifestId, Place, Standing};
 pub use memory::Memory;
 pub use name::{Name, Piece};

@@ -4,7 +4,8 @@ use Rattle.std.proofs.lemmas.List.Filters.{dedup_is}
 use Rattle.ss_base.specs.declared.ids.ContainerId.{ContainerId}
 use Rattle.ss_base.specs.declared.ids.Place.{Place}
 use Rattle.manifest_codec.specs.Containers.{AreContainers}
-use Rattle.manifest_codec.proofs.ContainersLaws.{same_container, AreContainers-dedup}
+use Rattle.ss_base.specs.Ids.{same_container}
+use Rattle.manifest_codec.proofs.ContainersLaws.{AreContainers-dedup}
 use Rattle.manifest_codec.proofs.containers_of.containers.Goals as goal
 
 pub returns : goal.returns
