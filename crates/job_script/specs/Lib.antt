@@ -1,6 +1,5 @@
 pub use Rattle.ss_base.specs.StreamName
 pub mod FileName
-pub mod Padded
 pub mod Words
 pub mod Grammar
 pub mod Script

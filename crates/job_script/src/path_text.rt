@@ -2,6 +2,7 @@
 ghost use Rattle.std.specs.Prelude.{◌≡◌, ◌↔◌, IsTrue, IsSome, IfSome};
 ghost use Rattle.job_script.specs.FileName.{IsFileName};
 
+use ss_base::ShortText;
 use std::marker::Model;
 
 const MAX_LEN: usize = 255;
@@ -9,25 +10,22 @@ const MAX_LEN: usize = 255;
 /// The name of a file: 1 to 255 bytes from 0x21 to 0x7E. Contracts see its bytes.
 #[derive(Debug, PartialEq, Eq)]
 pub struct PathText {
-    // Zeros stand behind the name's bytes.
-    bytes: [u8; MAX_LEN],
-    len: usize,
+    text: ShortText<MAX_LEN>,
 }
 
 impl Model for PathText {
-    ghost use Rattle.std.specs.Prelude.{List, ℕ};
+    ghost use Rattle.std.specs.Prelude.{List, ℕ, refl};
+    ghost use Rattle.job_script.specs.FileName.{IsFileName};
 
     ghost Value = { List ℕ };
 
-    ghost use Rattle.job_script.specs.Padded.{name_bytes, padded, IsPadded, padded-name_bytes};
+    ghost view = { λ s. s.text };
 
-    ghost view = { name_bytes };
+    ghost invariant = { λ s. IsFileName s.text };
 
-    ghost invariant = { IsPadded };
+    ghost inverse = { λ name. record { text = name } };
 
-    ghost inverse = { padded };
-
-    ghost inverse_ok = { padded-name_bytes };
+    ghost inverse_ok = { λ _ _. refl };
 }
 
 impl Copy for PathText {}
@@ -47,11 +45,8 @@ impl PathText {
         if !is_file_name(text) {
             return None;
         }
-        let mut bytes = [0; MAX_LEN];
-        bytes[..text.len()].copy_from_slice(text);
         Some(PathText {
-            bytes,
-            len: text.len(),
+            text: ShortText::new(text),
         })
     }
 
@@ -60,7 +55,7 @@ impl PathText {
         ensures bytes { result.now ≡ self.now }
         ensures name { IsFileName self.now }
     {
-        str::from_utf8(&self.bytes[..self.len]).unwrap()
+        str::from_utf8(self.text.bytes()).unwrap()
     }
 }
 

@@ -8,4 +8,4 @@ pub mod IdLaws
 pub mod OrderLaws
 pub mod OriginLaws
 pub mod StandingLaws
-mod PaddedLaws
+

@@ -9,6 +9,7 @@ mod memory;
 mod name;
 mod object;
 mod profile;
+mod short_text;
 mod stream_name;
 
 pub use ended::Ended;
@@ -18,6 +19,7 @@ pub use memory::Memory;
 pub use name::{Name, Piece};
 pub use object::{Object, object_name};
 pub use profile::{Numbers, Profile};
+pub use short_text::ShortText;
 pub use stream_name::{StreamName, is_stream_name};
 
 #[cfg(test)]

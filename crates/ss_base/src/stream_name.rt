@@ -2,6 +2,7 @@
 ghost use Rattle.std.specs.Prelude.{◌≡◌, ◌↔◌, IsTrue, IsSome, IfSome};
 ghost use Rattle.ss_base.specs.StreamName.{is_stream_byte, IsStreamName};
 
+use crate::ShortText;
 use std::marker::Model;
 
 const MAX_LEN: usize = 64;
@@ -10,25 +11,22 @@ const MAX_LEN: usize = 64;
 /// their bytes, a prefix before what it begins.
 #[derive(Debug, PartialEq, Eq, PartialOrd, Ord, Hash)]
 pub struct StreamName {
-    // Zeros stand behind the name's bytes.
-    bytes: [u8; MAX_LEN],
-    len: usize,
+    text: ShortText<MAX_LEN>,
 }
 
 impl Model for StreamName {
-    ghost use Rattle.std.specs.Prelude.{List, ℕ};
+    ghost use Rattle.std.specs.Prelude.{List, ℕ, refl};
+    ghost use Rattle.ss_base.specs.StreamName.{IsStreamName};
 
     ghost Value = { List ℕ };
 
-    ghost use Rattle.ss_base.specs.Padded.{name_bytes, padded, IsPadded, padded-name_bytes};
+    ghost view = { λ s. s.text };
 
-    ghost view = { name_bytes };
+    ghost invariant = { λ s. IsStreamName s.text };
 
-    ghost invariant = { IsPadded };
+    ghost inverse = { λ name. record { text = name } };
 
-    ghost inverse = { padded };
-
-    ghost inverse_ok = { padded-name_bytes };
+    ghost inverse_ok = { λ _ _. refl };
 }
 
 impl Copy for StreamName {}
@@ -48,11 +46,8 @@ impl StreamName {
         if !is_stream_name(text) {
             return None;
         }
-        let mut bytes = [0; MAX_LEN];
-        bytes[..text.len()].copy_from_slice(text);
         Some(StreamName {
-            bytes,
-            len: text.len(),
+            text: ShortText::new(text),
         })
     }
 
@@ -61,7 +56,7 @@ impl StreamName {
         ensures bytes { result.now ≡ self.now }
         ensures name { IsStreamName self.now }
     {
-        &self.bytes[..self.len]
+        self.text.bytes()
     }
 }
 

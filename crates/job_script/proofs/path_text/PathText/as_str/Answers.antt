@@ -4,5 +4,5 @@ use Rattle.job_script.proofs.path_text.PathText.as_str.Goals as goal
 
 pub unwrap-requires : goal.unwrap-requires
 unwrap-requires c =
-    let is_text = IsUtf8-visible _ c.self.invariant.name.bytes in
+    let is_text = IsUtf8-visible _ c.self.invariant.bytes in
     grind (arith, is_text, c.from_utf8.ensures.cases)
