@@ -1,5 +1,6 @@
 -- What stands for a chunk: its name, and its name with its length.
 use Rattle.std.specs.Prelude.{ℕ, ◌≤◌, List, length, map}
+use Rattle.ss_base.specs.declared.limits.TheConstants.{MAX_CHUNK_LEN}
 use Rattle.ss_base.specs.declared.name.Name.{Name}
 use Rattle.ss_base.specs.declared.name.Piece.{Piece}
 use Rattle.sha2.specs.Sha256.{sha256}
@@ -18,4 +19,4 @@ pieces chunks = map piece chunks
 
 -- the piece of a chunk from 1 to 11,200 bytes, as every profile cuts them
 abbrev pub HasChunkLen : Piece → Type 0
-HasChunkLen p = (1 ≤ p.len) × (p.len ≤ 11200)
+HasChunkLen p = (1 ≤ p.len) × (p.len ≤ MAX_CHUNK_LEN)

@@ -3,7 +3,7 @@ ghost use Rattle.std.specs.Prelude.{◌≡◌, ◌+◌, ◌<◌, ◌≤◌, ◌^
 ghost use Rattle.container_file.specs.Layout.{fits, opened, after, place_for};
 
 use crate::fields::{HEADER, RECORD};
-use ss_base::{ContainerId, Piece, Place};
+use ss_base::{ContainerId, MAX_CHUNK_LEN, Piece, Place};
 
 /// The end of a session's containers: `containers` is how many it has started, and `used` the size of the last one
 /// in bytes, or 0.
@@ -19,7 +19,7 @@ impl ContainerEnd {
     #[tactic(auto, unfolding(crate::specs::Layout::opened))]
     pub(crate) fn opened(self, room: u32, piece: Piece) -> ContainerEnd
         requires containers { self.containers + 1 < 2 ^ 32 }
-        requires len { piece.len ≤ 11200 }
+        requires len { piece.len ≤ MAX_CHUNK_LEN }
         ensures opened { result ≡ opened self room piece }
         ensures some { 0 < result.containers }
         ensures record { result.used + 36 + piece.len < 2 ^ 32 }

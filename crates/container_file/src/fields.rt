@@ -5,7 +5,7 @@ ghost use Rattle.ss_base.specs.declared.ids.ContainerId.{ContainerId};
 ghost use Rattle.container_file.specs.Chunk.{Chunk, IsChunk, the_chunk};
 ghost use Rattle.container_file.specs.Text.{header, record_text, HasNoRecord};
 
-use ss_base::{ContainerId, Memory, Piece, read_fields, read_name, read_number, write_name, write_number};
+use ss_base::{ContainerId, MAX_CHUNK_LEN, Memory, Piece, read_fields, read_name, read_number, write_name, write_number};
 
 const MAGIC: [u8; 4] = *b"SSC1";
 
@@ -62,7 +62,7 @@ pub fn read_record(text: &[u8]) -> Option<(Piece, &[u8], &[u8])>
     }
     let (head, rest) = text.split_at(RECORD as usize);
     let piece = read_piece(head);
-    if piece.len < 1 || piece.len > 11_200 || rest.len() < piece.len as usize {
+    if piece.len < 1 || piece.len > MAX_CHUNK_LEN || rest.len() < piece.len as usize {
         return None;
     }
     let (chunk, rest) = rest.split_at(piece.len as usize);

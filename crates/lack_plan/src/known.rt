@@ -4,7 +4,7 @@ ghost use Rattle.ss_base.specs.declared.name.Piece.{Piece};
 ghost use Rattle.lack_plan.specs.Maps.{KnowsPieces};
 
 use manifest_codec::Manifest;
-use ss_base::{Memory, Piece};
+use ss_base::{MAX_CHAMPIONS, Memory, Piece};
 use std::alloc::Global;
 use std::collections::HashMap;
 
@@ -13,7 +13,7 @@ pub fn champion_places(
     alloc: Global,
     champions: &[Manifest],
 ) -> Result<HashMap<Piece, (u32, u32)>, Memory>
-    requires { length champions.now ≤ 255 }
+    requires { length champions.now ≤ MAX_CHAMPIONS }
     ensures { IfOk result (KnowsPieces (map (λ m. m.pieces.items) champions.now)) }
 {
     let mut places = HashMap::new(alloc);

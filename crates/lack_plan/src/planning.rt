@@ -8,14 +8,14 @@ ghost use Rattle.lack_plan.specs.Maps.{HasPlaces, KnowsPieces};
 use crate::Origin;
 use crate::known::champion_places;
 use manifest_codec::Manifest;
-use ss_base::{Memory, Piece};
+use ss_base::{MAX_CHAMPIONS, MAX_CHUNKS, Memory, Piece};
 use std::alloc::Global;
 use std::collections::HashMap;
 
 /// The origin of each piece of a segment, in their order. Its time is that of the pieces.
 pub fn lacks(alloc: Global, pieces: &[Piece], champions: &[Manifest]) -> Result<Vec<Origin>, Memory>
-    requires pieces { length pieces.now ≤ 4096 }
-    requires champions { length champions.now ≤ 255 }
+    requires pieces { length pieces.now ≤ MAX_CHUNKS }
+    requires champions { length champions.now ≤ MAX_CHAMPIONS }
     ensures all { IfOk result (λ list. list.items ≡ origins pieces.now (map (λ m. m.pieces.items) champions.now)) }
 
     // What follows from the definition.

@@ -2,6 +2,7 @@
 use Rattle.std.specs.Prelude.{◌≡◌, ◌≤◌, List, length}
 use Rattle.std.specs.List.{All}
 use Rattle.ss_base.specs.declared.ids.Place.{Place}
+use Rattle.ss_base.specs.declared.limits.TheConstants.{MAX_CHUNKS}
 use Rattle.ss_base.specs.declared.name.Piece.{Piece}
 use Rattle.chunk_name.specs.Pieces.{HasChunkLen}
 
@@ -9,6 +10,6 @@ use Rattle.chunk_name.specs.Pieces.{HasChunkLen}
 -- and a place for each.
 pub record AreListed (pieces : List Piece) (places : List Place) : Type 0 where
   pub some : 1 ≤ length pieces
-  pub bounded : length pieces ≤ 4096
+  pub bounded : length pieces ≤ MAX_CHUNKS
   pub lengths : All HasChunkLen pieces
   pub located : length places ≡ length pieces

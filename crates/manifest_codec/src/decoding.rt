@@ -8,7 +8,7 @@ ghost use Rattle.manifest_codec.specs.Text.{places_part, manifest_text, AreManif
 
 use crate::Manifest;
 use crate::fields::{read_piece, read_place};
-use ss_base::{Memory, Piece, Place};
+use ss_base::{MAX_CHUNK_LEN, MAX_CHUNKS, Memory, Piece, Place};
 use std::alloc::{AllocError, AllocFailed, Global};
 
 /// Why a text gives no manifest.
@@ -50,7 +50,7 @@ pub fn decode(alloc: Global, text: &[u8]) -> Result<Manifest, DecodeFault>
         (pieces : List Piece) (places : List Place) → AreManifest pieces places → manifest_text pieces places ≢ text.now }
 {
     let count = text.len() / 48;
-    if text.len() % 48 != 0 || count == 0 || count > 4096 {
+    if text.len() % 48 != 0 || count == 0 || count > MAX_CHUNKS {
         return Err(DecodeFault::NotManifest);
     }
     let (pieces, places) = text.split_at(count * 36);
@@ -72,7 +72,7 @@ fn read_pieces(alloc: Global, text: &[u8], count: usize) -> Result<Vec<Piece>, D
     let mut pieces = Vec::with_capacity(alloc, count)?;
     for i in 0..count {
         let piece = read_piece(&text[36 * i..36 * i + 36]);
-        if piece.len < 1 || piece.len > 11_200 {
+        if piece.len < 1 || piece.len > MAX_CHUNK_LEN {
             return Err(DecodeFault::NotManifest);
         }
         pieces.push(piece)?;

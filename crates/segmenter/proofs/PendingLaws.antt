@@ -4,6 +4,7 @@ use mathlib.Core.Logic.{⊎_elim}
 use Rattle.std.specs.List.{All, slice_index_or}
 use Rattle.std.proofs.lemmas.Bool.{cases_order, false≢true}
 use Rattle.std.proofs.Math.Bool.{or-true}
+use Rattle.ss_base.specs.declared.limits.TheConstants.{MAX_CHUNK_LEN}
 use Rattle.ss_base.specs.declared.profile.Numbers.{Numbers}
 use Rattle.chunk_name.specs.Pieces.{name_of_bytes, piece, HasChunkLen}
 use Rattle.segmenter.specs.Segments.{last_number, ends_at}
@@ -27,5 +28,5 @@ length-pending p pending =
     (cases_order (length p.chunks) p.numbers.smax)
 
 -- chunks of these numbers are chunks of some profile
-pub HasChunkLen-all : (n : Numbers) (chunks : List (List ℕ)) → n.tmax ≤ 11200 → All (IsChunk n) chunks → All (λ chunk. HasChunkLen (piece chunk)) chunks
+pub HasChunkLen-all : (n : Numbers) (chunks : List (List ℕ)) → n.tmax ≤ MAX_CHUNK_LEN → All (IsChunk n) chunks → All (λ chunk. HasChunkLen (piece chunk)) chunks
 HasChunkLen-all n chunks max all = λ k d lt. let chunk = all k d lt in (chunk.0, omega arith)

@@ -6,7 +6,7 @@ ghost use Rattle.segmenter.specs.Segment.{HasChunks};
 
 use crate::Segment;
 use chunk_name::piece_of;
-use ss_base::{Memory, Name, Piece};
+use ss_base::{MAX_CHUNKS, Memory, Name, Piece};
 use std::alloc::Global;
 use std::marker::Model;
 use std::mem;
@@ -63,7 +63,7 @@ impl Joined {
     /// Takes the chunks out. It takes no memory.
     pub fn take(&mut self) -> Segment
         requires some { 1 ≤ length self.old }
-        requires bounded { length self.old ≤ 4096 }
+        requires bounded { length self.old ≤ MAX_CHUNKS }
         requires lengths { All (λ chunk. HasChunkLen (piece chunk)) self.old }
         ensures segment { HasChunks result self.old }
         ensures after { self.new ≡ [] }

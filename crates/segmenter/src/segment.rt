@@ -1,6 +1,7 @@
 // Segments.
 ghost use Rattle.std.specs.Prelude.{◌≤◌, vec_len};
 ghost use Rattle.std.specs.List.{All};
+ghost use Rattle.ss_base.specs.declared.limits.TheConstants.{MAX_CHUNKS};
 ghost use Rattle.chunk_name.specs.Pieces.{HasChunkLen};
 ghost use Rattle.segmenter.specs.Joined.{ArePieces};
 
@@ -14,7 +15,7 @@ pub struct Segment {
     pub bytes: Vec<u8>,
 
     pub ghost some: { 1 ≤ vec_len pieces },
-    pub ghost bounded: { vec_len pieces ≤ 4096 },
+    pub ghost bounded: { vec_len pieces ≤ MAX_CHUNKS },
     pub ghost lengths: { All HasChunkLen pieces.items },
     pub ghost parts: { ArePieces pieces.items bytes.items },
 }

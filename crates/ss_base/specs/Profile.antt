@@ -1,5 +1,6 @@
 -- The numbers of the profiles (this project's own).
 use Rattle.std.specs.Prelude.{ℕ, ◌≡◌, ◌+◌, ◌*◌, ◌<◌, ◌≤◌}
+use Rattle.ss_base.specs.declared.limits.TheConstants.{MAX_CHUNK_LEN, MAX_CHUNKS}
 use Rattle.ss_base.specs.declared.profile.Profile.{Profile}
 use Rattle.ss_base.specs.declared.profile.Profile.TheVariants.{Tiny, Small, Large}
 use Rattle.ss_base.specs.declared.profile.Numbers.{Numbers}
@@ -15,12 +16,12 @@ numbers_of Large = record { tmin = 1840; tmax = 11200; d = 2160; d2 = 1080; smin
 pub record AreSound (n : Numbers) : Type 0 where
   pub window : 48 ≤ n.tmin
   pub thresholds : n.tmin ≤ n.tmax
-  pub chunk : n.tmax ≤ 11200
+  pub chunk : n.tmax ≤ MAX_CHUNK_LEN
   pub backup : 0 < n.d2
   pub main : n.d ≡ 2 * n.d2
   pub segment : 0 < n.smin
   pub segments : n.smin ≤ n.smax
-  pub pieces : n.smax ≤ 4096
+  pub pieces : n.smax ≤ MAX_CHUNKS
   pub divisor : 0 < n.sdiv
   pub bits : n.bits ≤ 32
   pub room : n.tmax + 52 ≤ n.room

@@ -5,6 +5,7 @@
 mod ended;
 mod fields;
 mod ids;
+mod limits;
 mod memory;
 mod name;
 mod object;
@@ -15,6 +16,7 @@ mod stream_name;
 pub use ended::Ended;
 pub use fields::{read_name, read_number, write_name, write_number};
 pub use ids::{ContainerId, ManifestId, Place, Standing};
+pub use limits::{MAX_CHAMPIONS, MAX_CHUNK_LEN, MAX_CHUNKS, PIECE_LEN};
 pub use memory::Memory;
 pub use name::{Name, Piece};
 pub use object::{Object, object_name};

@@ -5,10 +5,8 @@ ghost use Rattle.ss_base.specs.Profile.{numbers_of};
 ghost use Rattle.tttd_chunker.specs.Cut.{has_cut, cut};
 
 use crate::Chunker;
-use ss_base::{Memory, Profile};
+use ss_base::{Memory, PIECE_LEN, Profile};
 use std::alloc::Global;
-
-const PIECE: usize = 65_536;
 
 /// The chunks of these bytes, in order. Only want of memory is an error.
 pub fn cut_all(alloc: Global, profile: Profile, bytes: &[u8]) -> Result<Vec<Vec<u8>>, Memory>
@@ -18,7 +16,7 @@ pub fn cut_all(alloc: Global, profile: Profile, bytes: &[u8]) -> Result<Vec<Vec<
     let mut chunks = Vec::new(alloc);
     let mut rest = bytes;
     while !rest.is_empty() {
-        let len = rest.len().min(PIECE);
+        let len = rest.len().min(PIECE_LEN);
         feed(alloc, &mut chunker, &mut chunks, &rest[..len])?;
         rest = &rest[len..];
     }

@@ -7,7 +7,7 @@ use Rattle.manifest_codec.specs.Text.{places_part, manifest_text, AreManifest}
 use Rattle.manifest_codec.proofs.FixedLaws.{length-texts}
 use Rattle.manifest_codec.proofs.TextLaws.{length-manifest_text, piece_sizes, same_manifest}
 use Rattle.manifest_codec.proofs.decoding.decode.Goals as goal
-use Rattle.manifest_codec.proofs.decoding.decode.Goals.{then-text-ne0-via-then-text-ne0, then-text-ne0-via-else-text-ne0+then-count-eq0, then-text-ne0-via-else-text-ne0+else-count-eq0+then-count-gt4096}
+use Rattle.manifest_codec.proofs.decoding.decode.Goals.{then-text-ne0-via-then-text-ne0, then-text-ne0-via-else-text-ne0+then-count-eq0, then-text-ne0-via-else-text-ne0+else-count-eq0+then-count-gt-MAX_CHUNKS}
 
 pub returns-then-text-ne0-clause-refused : goal.returns-then-text-ne0-clause-refused
 returns-then-text-ne0-clause-refused c = λ _ pieces places are same.
@@ -17,7 +17,7 @@ returns-then-text-ne0-clause-refused c = λ _ pieces places are same.
     elim c.then-text-ne0.branch [
       | then-text-ne0-via-then-text-ne0 w ↦ omega (arith, len)
       | then-text-ne0-via-else-text-ne0+then-count-eq0 w ↦ omega (arith, len)
-      | then-text-ne0-via-else-text-ne0+else-count-eq0+then-count-gt4096 w ↦ omega (arith, len)
+      | then-text-ne0-via-else-text-ne0+else-count-eq0+then-count-gt-MAX_CHUNKS w ↦ omega (arith, len)
     ]
 
 pub returns-in_err-read_pieces-clause-refused : goal.returns-in_err-read_pieces-clause-refused

@@ -6,7 +6,7 @@ use Rattle.manifest_codec.specs.PiecesPart.{piece_text}
 use Rattle.manifest_codec.proofs.FixedLaws.{read-more}
 use Rattle.manifest_codec.proofs.TextLaws.{has_its_length, IsPiece}
 use Rattle.manifest_codec.proofs.decoding.read_pieces.Goals as goal
-use Rattle.manifest_codec.proofs.decoding.read_pieces.Goals.{then-piece-lt1-via-then-piece-lt1, then-piece-lt1-via-else-piece-lt1+then-piece-gt11200}
+use Rattle.manifest_codec.proofs.decoding.read_pieces.Goals.{then-piece-lt1-via-then-piece-lt1, then-piece-lt1-via-else-piece-lt1+then-piece-gt-MAX_CHUNK_LEN}
 
 pub loop-i-preserved : goal.loop-i-preserved
 loop-i-preserved c =
@@ -35,5 +35,5 @@ returns-then-piece-lt1-clause-refused c = λ _ ps named lengths same.
     let its = has_its_length ps text c.args.count i piece named lengths same c.requires c.loop-i-test.true fits part in
     elim c.then-piece-lt1.branch [
       | then-piece-lt1-via-then-piece-lt1 w ↦ omega (arith, its.0)
-      | then-piece-lt1-via-else-piece-lt1+then-piece-gt11200 w ↦ omega (arith, its.1)
+      | then-piece-lt1-via-else-piece-lt1+then-piece-gt-MAX_CHUNK_LEN w ↦ omega (arith, its.1)
     ]
