@@ -1,7 +1,3 @@
-pub mod Names
-pub mod Loop
-pub mod Fields
-pub mod Entries
 mod Scans
 mod Objects
 mod Rounds

@@ -8,14 +8,15 @@ use Rattle.ss_base.specs.declared.ids.ManifestId.{ManifestId}
 use Rattle.ss_base.specs.declared.name.Name.{Name}
 use Rattle.ss_base.specs.Champions.{same_manifest}
 use Rattle.hook_sampler.specs.Hooks.{is_hook}
-use Rattle.history.specs.declared.entry.Entry.{Entry}
-use Rattle.history.specs.declared.entry.Seen.{Seen}
-use Rattle.history.specs.declared.entry.Totals.{Totals}
-use Rattle.history.specs.declared.entry.Limits.{Limits}
+use Rattle.journal_entry.specs.declared.entry.Entry.{Entry}
+use Rattle.journal_entry.specs.declared.entry.Seen.{Seen}
+use Rattle.journal_entry.specs.declared.entry.Totals.{Totals}
+use Rattle.history.specs.declared.rules.Limits.{Limits}
 use Rattle.history.specs.declared.rules.Rules.{Rules}
-use Rattle.history.specs.declared.entry.Point.{Point}
-use Rattle.history.specs.declared.entry.Point.TheVariants.{Begin, Choose, Commit, Finish, Abort, Delete, Look, Done, Reclaim, Stat}
-use Rattle.history.specs.Reading.{are_counts}
+use Rattle.journal_entry.specs.declared.entry.Point.{Point}
+use Rattle.journal_entry.specs.declared.entry.Point.TheVariants.{Begin, Choose, Commit, Finish, Abort, Delete, Look, Done, Reclaim, Stat}
+use Rattle.journal_entry.specs.Bounds.{are_counts}
+use Rattle.journal_entry.specs.Weight.{weight}
 use Rattle.history.specs.Sessions.{session_begun, session_count, reading_begun, reading_count, is_unfinished, is_reading, is_held, retained, is_begun_by, is_looked_by, commits_of, is_pending, pending_champions, has}
 use Rattle.history.specs.StandingList.{has_name, champions_for}
 use Rattle.history.specs.Need.{same_object, has_container, erasable}
@@ -152,16 +153,6 @@ unfinished_sessions past = count_by (λ (entry : Entry). begins_unfinished past 
 
 unfoldable pub unfinished_readings : List Entry → ℕ
 unfinished_readings past = count_by (λ (entry : Entry). looks_unfinished past entry.point) past
-
--- how many names of hooks and containers an entry lists
-unfoldable pub point_weight : Point → ℕ
-point_weight (Choose session hooks champions) = length hooks
-point_weight (Commit manifest content text chunks bytes fresh fresh_bytes uses) = length uses
-point_weight _ = 0
-
--- the names of hooks and containers that the entries list
-unfoldable pub weight : List Entry → ℕ
-weight past = sum_by (λ (entry : Entry). point_weight entry.point) past
 
 -- whether the entries fit the limits, with room for an entry that ends each unfinished session and reading
 unfoldable pub is_within : Limits → List Entry → Bool

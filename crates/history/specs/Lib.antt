@@ -1,6 +1,6 @@
-pub mod EntryText
-pub mod Bounds
-pub mod Reading
+pub use Rattle.journal_entry.specs.EntryText
+pub use Rattle.journal_entry.specs.Bounds
+pub use Rattle.journal_entry.specs.Weight
 pub mod Sessions
 pub mod StandingList
 pub mod Need

@@ -7,10 +7,10 @@ use Rattle.ss_base.specs.declared.ids.ManifestId.{ManifestId}
 use Rattle.ss_base.specs.declared.object.Object.{Object}
 use Rattle.ss_base.specs.declared.object.Object.TheVariants.{Container, Manifest}
 use Rattle.ss_base.specs.Champions.{same_manifest}
-use Rattle.history.specs.declared.entry.Entry.{Entry}
-use Rattle.history.specs.declared.entry.Seen.{Seen}
-use Rattle.history.specs.declared.entry.Point.{Point}
-use Rattle.history.specs.declared.entry.Point.TheVariants.{Commit, Finish, Abort, Reclaim}
+use Rattle.journal_entry.specs.declared.entry.Entry.{Entry}
+use Rattle.journal_entry.specs.declared.entry.Seen.{Seen}
+use Rattle.journal_entry.specs.declared.entry.Point.{Point}
+use Rattle.journal_entry.specs.declared.entry.Point.TheVariants.{Commit, Finish, Abort, Reclaim}
 use Rattle.history.specs.Sessions.{sessions, session_count, readings, closes, has, newest, is_unfinished, is_retained, is_reading, commits_of, pending_champions}
 use Rattle.history.specs.StandingList.{has_manifest}
 

@@ -7,9 +7,9 @@ use Rattle.ss_base.specs.declared.ids.Standing.{Standing}
 use Rattle.ss_base.specs.declared.name.Name.{Name}
 use Rattle.ss_base.specs.Champions.{same_manifest, champions}
 use Rattle.hook_sampler.specs.Hooks.{same_name}
-use Rattle.history.specs.declared.entry.Entry.{Entry}
-use Rattle.history.specs.declared.entry.Point.{Point}
-use Rattle.history.specs.declared.entry.Point.TheVariants.{Choose, Commit, Abort, Delete}
+use Rattle.journal_entry.specs.declared.entry.Entry.{Entry}
+use Rattle.journal_entry.specs.declared.entry.Point.{Point}
+use Rattle.journal_entry.specs.declared.entry.Point.TheVariants.{Choose, Commit, Abort, Delete}
 use Rattle.history.specs.Sessions.{last_hooks}
 
 -- whether the name is one of the names

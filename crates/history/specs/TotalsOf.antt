@@ -1,10 +1,10 @@
 -- The totals of a history (this project's own).
 use Rattle.std.specs.Prelude.{ℕ, Bool, false, List, length, sum_by, count_by, if◌then◌else◌}
 use Rattle.std.specs.Option.{option_map_or}
-use Rattle.history.specs.declared.entry.Entry.{Entry}
-use Rattle.history.specs.declared.entry.Totals.{Totals}
-use Rattle.history.specs.declared.entry.Point.{Point}
-use Rattle.history.specs.declared.entry.Point.TheVariants.{Commit, Reclaim}
+use Rattle.journal_entry.specs.declared.entry.Entry.{Entry}
+use Rattle.journal_entry.specs.declared.entry.Totals.{Totals}
+use Rattle.journal_entry.specs.declared.entry.Point.{Point}
+use Rattle.journal_entry.specs.declared.entry.Point.TheVariants.{Commit, Reclaim}
 use Rattle.history.specs.Sessions.{session_begun, is_retained}
 use Rattle.history.specs.Need.{containers_closed}
 

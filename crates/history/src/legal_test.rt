@@ -3,15 +3,14 @@ ghost use Rattle.std.specs.Prelude.{◌≡◌, ◌+◌, ◌≤◌, ◌<◌, ◌^
 ghost use Rattle.std.specs.Cmp.Lexicographic.{pointwise};
 ghost use Rattle.std.specs.Option.{option_eq};
 ghost use Rattle.ss_base.specs.Champions.{same_manifest};
-ghost use Rattle.history.specs.declared.entry.Entry.{Entry};
+ghost use Rattle.journal_entry.specs.declared.entry.Entry.{Entry};
 ghost use Rattle.history.specs.TotalsOf.{objects_named, totals};
 ghost use Rattle.history.specs.Need.{same_object, erasable};
-ghost use Rattle.history.specs.declared.entry.Point.TheVariants.{Choose};
+ghost use Rattle.journal_entry.specs.declared.entry.Point.TheVariants.{Choose};
 ghost use Rattle.history.specs.Sessions.{is_pending, commits_of};
 ghost use Rattle.history.specs.Legal.{same_seen, same_totals, is_open_to, is_above_own, are_texts, is_allowed, may_follow, is_legal};
 
 use crate::champions_scan::champions_for;
-use crate::decoding::are_counts;
 use crate::legality::{
     are_hooks, are_texts, are_uses, is_above_own, is_open_to, is_within, reply_to_begin,
     reply_to_look,
@@ -19,7 +18,7 @@ use crate::legality::{
 use crate::need_scan::{erasable, same_object};
 use crate::session_scan::{commits_of, is_looked_by, is_pending, is_reading, retained};
 use crate::totals_scan::totals;
-use crate::{Entry, Items, Point, Rules, Seen, Totals};
+use crate::{Entry, Items, Point, Rules, Seen, Totals, are_counts};
 use ss_base::{ManifestId, Memory, Name, Object};
 use std::alloc::Global;
 

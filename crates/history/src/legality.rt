@@ -5,12 +5,11 @@ ghost use Rattle.std.specs.Cmp.Lexicographic.{pointwise};
 ghost use Rattle.std.specs.Option.{option_eq};
 ghost use Rattle.ss_base.specs.Champions.{same_manifest};
 ghost use Rattle.hook_sampler.specs.Hooks.{is_hook};
-ghost use Rattle.history.specs.Reading.{are_counts};
-ghost use Rattle.history.specs.Bounds.{IsWithinBounds};
 ghost use Rattle.history.specs.Sessions.{has, is_pending, commits_of, is_reading, is_looked_by};
 ghost use Rattle.history.specs.StandingList.{champions_for};
 ghost use Rattle.history.specs.Need.{erasable, same_object};
-ghost use Rattle.history.specs.Legal.{is_distinct, is_container_before, is_before_first, is_ascending, is_open_to, reply_to_begin, reply_to_look, are_hooks, lists_use, is_use_of_any, is_use, are_uses, are_own_below, is_own_below, is_above_own, are_texts, begins_unfinished, looks_unfinished, unfinished_sessions, unfinished_readings, point_weight, weight, is_within};
+ghost use Rattle.journal_entry.specs.Weight.{weight};
+ghost use Rattle.history.specs.Legal.{is_distinct, is_container_before, is_before_first, is_ascending, is_open_to, reply_to_begin, reply_to_look, are_hooks, lists_use, is_use_of_any, is_use, are_uses, are_own_below, is_own_below, is_above_own, are_texts, begins_unfinished, looks_unfinished, unfinished_sessions, unfinished_readings, is_within};
 
 use crate::champions_scan::champions_for;
 use crate::need_scan::{has_container, same_manifest};
@@ -19,7 +18,7 @@ use crate::session_scan::{
     reading_begun, reading_count, retained, session_begun, session_count,
 };
 use crate::standing_scan::has_name;
-use crate::{Entry, Limits, Point, Seen};
+use crate::{Entry, Limits, Point, Seen, point_weight};
 use ss_base::{ContainerId, ManifestId, Memory, Name, StreamName};
 use std::alloc::Global;
 
@@ -257,17 +256,6 @@ fn unfinished_readings(entries: &[Entry]) -> usize
         }
     }
     count
-}
-
-#[tactic(auto, unfolding(crate::specs::Legal::point_weight))]
-fn point_weight(point: &Point) -> usize
-    ensures { result ≡ point_weight point.now }
-{
-    match point {
-        Point::Choose { hooks, .. } => hooks.as_slice().len(),
-        Point::Commit { uses, .. } => uses.as_slice().len(),
-        _ => 0,
-    }
 }
 
 // Whether the entries' weight is at most a limit. It stops at the first entry with which it is more.

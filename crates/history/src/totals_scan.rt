@@ -1,6 +1,6 @@
 // The totals of a history, by scanning its entries.
 ghost use Rattle.std.specs.Prelude.{◌≡◌, ◌<◌, ◌≤◌, ◌^◌, All, length, reverse, sum_by, count_by, IfOk};
-ghost use Rattle.history.specs.declared.entry.Entry.{Entry};
+ghost use Rattle.journal_entry.specs.declared.entry.Entry.{Entry};
 ghost use Rattle.history.specs.Sessions.{sessions, is_retained};
 ghost use Rattle.history.specs.Need.{containers_closed};
 ghost use Rattle.history.specs.TotalsOf.{bytes_retained, bytes_stored, objects_named, stream_began, totals};

@@ -7,13 +7,13 @@ use Rattle.ss_base.specs.declared.ids.ContainerId.{ContainerId}
 use Rattle.ss_base.specs.declared.ids.ManifestId.{ManifestId}
 use Rattle.ss_base.specs.declared.name.Name.{Name}
 use Rattle.ss_base.specs.Champions.{same_manifest}
-use Rattle.history.specs.declared.entry.Entry.{Entry}
-use Rattle.history.specs.declared.entry.Seen.{Seen}
+use Rattle.journal_entry.specs.declared.entry.Entry.{Entry}
+use Rattle.journal_entry.specs.declared.entry.Seen.{Seen}
 use Rattle.history.specs.declared.rules.Rules.{Rules}
-use Rattle.history.specs.declared.entry.Point.{Point}
-use Rattle.history.specs.declared.entry.Point.TheVariants.{Begin, Choose, Commit, Finish, Abort, Delete, Look}
+use Rattle.journal_entry.specs.declared.entry.Point.{Point}
+use Rattle.journal_entry.specs.declared.entry.Point.TheVariants.{Begin, Choose, Commit, Finish, Abort, Delete, Look}
 use Rattle.history.specs.Sessions.{session_begun, session_count, sessions_under, reading_count, begins, finishes, aborts, closes, deletes, is_unfinished, is_retained, is_held, retained, is_begun_by, is_pending, commits_of}
-use Rattle.history.specs.Reading.{are_counts}
+use Rattle.history.specs.Bounds.{are_counts}
 use Rattle.history.specs.StandingList.{champions_for}
 use Rattle.history.specs.Need.{commits_manifest}
 use Rattle.history.specs.Legal.{is_open_to, reply_to_begin, reply_to_look, same_seen, are_hooks, are_uses, is_above_own, are_texts, is_allowed, is_within, may_follow, is_legal}

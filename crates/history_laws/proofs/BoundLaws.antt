@@ -8,16 +8,16 @@ use Rattle.ss_base.specs.declared.ids.Standing.{Standing}
 use Rattle.ss_base.specs.declared.name.Name.{Name}
 use Rattle.ss_base.specs.Champions.{champions, uncovered}
 use Rattle.hook_sampler.specs.Hooks.{is_hook}
-use Rattle.history.specs.declared.entry.Entry.{Entry}
+use Rattle.journal_entry.specs.declared.entry.Entry.{Entry}
 use Rattle.history.specs.declared.rules.Rules.{Rules}
-use Rattle.history.specs.declared.entry.Point.{Point}
-use Rattle.history.specs.declared.entry.Point.TheVariants.{Choose, Commit, Reclaim}
+use Rattle.journal_entry.specs.declared.entry.Point.{Point}
+use Rattle.journal_entry.specs.declared.entry.Point.TheVariants.{Choose, Commit, Reclaim}
 use Rattle.history.specs.Bounds.{PointIsWithinBounds}
 use Rattle.history.specs.Sessions.{pending_champions}
 use Rattle.history.specs.StandingList.{standing, champions_for}
 use Rattle.history.specs.TotalsOf.{objects_named}
 use Rattle.history.specs.Legal.{is_distinct, are_hooks, is_ascending, is_use, are_uses, is_allowed}
-use Rattle.history.proofs.Entries.{AreCounts-from}
+use Rattle.journal_entry.proofs.Entries.{AreCounts-from}
 use Rattle.history.proofs.LegalLaws.{few_objects}
 use Rattle.history_laws.proofs.Allowed.{choose_says, commit_says}
 use Rattle.history_laws.proofs.ChampionLaws.{round, no_rounds}

@@ -9,11 +9,11 @@ use Rattle.ss_base.specs.declared.ids.ManifestId.{ManifestId}
 use Rattle.ss_base.specs.declared.ids.Standing.{Standing}
 use Rattle.ss_base.specs.declared.name.Name.{Name}
 use Rattle.ss_base.specs.Champions.{same_manifest, stands_in}
-use Rattle.history.specs.declared.entry.Entry.{Entry}
-use Rattle.history.specs.declared.entry.Seen.{Seen}
+use Rattle.journal_entry.specs.declared.entry.Entry.{Entry}
+use Rattle.journal_entry.specs.declared.entry.Seen.{Seen}
 use Rattle.history.specs.declared.rules.Rules.{Rules}
-use Rattle.history.specs.declared.entry.Point.{Point}
-use Rattle.history.specs.declared.entry.Point.TheVariants.{Choose, Commit, Look}
+use Rattle.journal_entry.specs.declared.entry.Point.{Point}
+use Rattle.journal_entry.specs.declared.entry.Point.TheVariants.{Choose, Commit, Look}
 use Rattle.history.specs.Sessions.{is_number, session_begun, sessions, begins, chooses, commits, finishes, aborts, closes, deletes, settles, has, newest, is_unfinished, is_closed, is_retained, champions_chosen, pending, pending_champions, reading_begun, readings, looks, ends, is_reading}
 use Rattle.history.specs.StandingList.{has_manifest, standing, champions_for}
 use Rattle.history.specs.Need.{same_container, has_container, is_champion, is_being_read, is_pinned, commits_manifest, is_live, uses_live, is_needed}

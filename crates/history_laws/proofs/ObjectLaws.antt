@@ -6,10 +6,10 @@ use Rattle.std.specs.Option.{option_map_or}
 use Rattle.std.proofs.lemmas.Bool.{false≢true, and_parts, and_left, and_right, not-true}
 use Rattle.ss_base.specs.declared.object.Object.{Object}
 use Rattle.ss_base.specs.declared.object.Object.TheVariants.{Container, Manifest}
-use Rattle.history.specs.declared.entry.Entry.{Entry}
+use Rattle.journal_entry.specs.declared.entry.Entry.{Entry}
 use Rattle.history.specs.declared.rules.Rules.{Rules}
-use Rattle.history.specs.declared.entry.Point.{Point}
-use Rattle.history.specs.declared.entry.Point.TheVariants.{Reclaim}
+use Rattle.journal_entry.specs.declared.entry.Point.{Point}
+use Rattle.journal_entry.specs.declared.entry.Point.TheVariants.{Reclaim}
 use Rattle.history.specs.Sessions.{closes, has, newest, session_count, is_closed}
 use Rattle.history.specs.Need.{same_object, has_object, containers_closed, texts_closed, closing, known_containers, known_manifests, containers_below, manifests_below, all_containers, all_manifests, known, reclaims, is_wanted, is_erasable, erasable}
 use Rattle.history.specs.Legal.{is_legal, is_allowed}

@@ -6,10 +6,10 @@ use Rattle.ss_base.specs.declared.ids.ManifestId.{ManifestId}
 use Rattle.ss_base.specs.declared.ids.Standing.{Standing}
 use Rattle.ss_base.specs.declared.name.Name.{Name}
 use Rattle.ss_base.specs.Champions.{same_manifest}
-use Rattle.history.specs.declared.entry.Entry.{Entry}
+use Rattle.journal_entry.specs.declared.entry.Entry.{Entry}
 use Rattle.history.specs.declared.rules.Rules.{Rules}
-use Rattle.history.specs.declared.entry.Point.{Point}
-use Rattle.history.specs.declared.entry.Point.TheVariants.{Choose, Commit, Abort, Delete}
+use Rattle.journal_entry.specs.declared.entry.Point.{Point}
+use Rattle.journal_entry.specs.declared.entry.Point.TheVariants.{Choose, Commit, Abort, Delete}
 use Rattle.history.specs.Sessions.{has, commits_of, last_hooks}
 use Rattle.history.specs.StandingList.{has_name, has_manifest, standing_of, chosen_standings, others_standing, promoted, without_session, in_front, standing_after, standing, champions_for}
 use Rattle.history.specs.Need.{commits_manifest}

@@ -4,7 +4,7 @@ ghost use Rattle.std.specs.List.{IsDistinct};
 ghost use Rattle.ss_base.specs.declared.ids.ContainerId.{ContainerId};
 ghost use Rattle.ss_base.specs.declared.ids.ManifestId.{ManifestId};
 ghost use Rattle.ss_base.specs.declared.object.Object.{Object};
-ghost use Rattle.history.specs.declared.entry.Entry.{Entry};
+ghost use Rattle.journal_entry.specs.declared.entry.Entry.{Entry};
 ghost use Rattle.history.specs.declared.rules.Rules.{Rules};
 ghost use Rattle.history.specs.Sessions.{is_closed, has};
 ghost use Rattle.history.specs.Need.{same_object, is_live, is_needed, is_wanted, erasable, reclaims};
