@@ -1,14 +1,14 @@
 -- Laws of legal histories.
-use Rattle.std.proofs.Common.{◌≡◌, ℕ, ◌≤◌, ◌<◌, ◌+◌, get_or, subst, below_more, take, length, arith, Bool, true, false, ◌&&◌, List, [], ◌∷◌, ◌++◌, refl, ap, ◌∙◌, zero-add}
+use Rattle.std.proofs.Common.{◌≡◌, ℕ, ◌≤◌, ◌<◌, ◌+◌, get_or, subst, below_more, take, length, arith, Bool, true, false, ◌&&◌, List, [], ◌∷◌, ◌++◌, refl, ap, ◌∙◌}
 use Rattle.journal_entry.specs.declared.entry.Entry.{Entry}
 use Rattle.journal_entry.specs.declared.entry.Point.{Point}
 use Rattle.journal_entry.specs.declared.entry.Point.TheVariants.{Begin, Choose, Commit, Finish, Abort, Delete, Look, Done, Reclaim, Stat}
 use Rattle.std.specs.Cmp.Lexicographic.{as_long}
 use Rattle.std.proofs.lemmas.List.{length-take, get_or_default}
-use Rattle.history.specs.Need.{same_object, erasable}
+use Rattle.ss_base.specs.Ids.{same_object}
+use Rattle.history.specs.Need.{erasable}
 use Rattle.history.specs.TotalsOf.{objects_named}
 use Rattle.history.specs.declared.rules.Rules.{Rules}
-use Rattle.journal_entry.specs.Weight.{point_weight, weight}
 use Rattle.history.specs.Legal.{is_legal, may_follow, is_allowed, is_within}
 
 first_of_both : (a b : Bool) → (a && b) ≡ true → a ≡ true

@@ -1,4 +1,4 @@
 mod Scans
-mod Objects
+mod Greatest
 mod Rounds
 pub mod LegalLaws

@@ -3,6 +3,7 @@ pub use Rattle.journal_entry.specs.Bounds
 pub use Rattle.journal_entry.specs.Weight
 pub mod Sessions
 pub mod StandingList
+pub mod OwnEnd
 pub mod Need
 pub mod TotalsOf
 pub mod Legal

@@ -1,5 +1,5 @@
 // Reading an entry. Each kind has a function, which takes the bytes behind that of the kind.
-ghost use Rattle.std.specs.Prelude.{◌≡◌, ℕ, IfOk, IfSome, IfNone};
+ghost use Rattle.std.specs.Prelude.{ℕ, IfOk, IfSome, IfNone};
 ghost use Rattle.journal_entry.specs.declared.entry.Entry.{Entry};
 ghost use Rattle.journal_entry.specs.Bounds.{Begins};
 ghost use Rattle.journal_entry.specs.Reading.{Gives, begin_at, choose_at, commit_at, finish_at, abort_at, delete_at, look_at, done_at, reclaim_at, stat_at, point_at, entry_at};

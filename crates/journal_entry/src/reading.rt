@@ -1,5 +1,5 @@
 // Reading the fields of an entry: each function takes one from the front and gives the bytes after it.
-ghost use Rattle.std.specs.Prelude.{◌≡◌, List, length, IfOk};
+ghost use Rattle.std.specs.Prelude.{◌≡◌, length, IfOk};
 ghost use Rattle.std.specs.Int.{w16, w32, w64};
 ghost use Rattle.journal_entry.specs.Reading.{Gives, byte_at, number_at, bytes_at, items_at, list_at, reply_at, digest_at, stream_name_at, manifest_at, container_at, object_at, seen_at, totals_at};
 

@@ -1,5 +1,5 @@
 // Writing the fields of an entry: each function puts one at the end.
-ghost use Rattle.std.specs.Prelude.{◌≡◌, ◌<◌, ◌≤◌, ◌^◌, ◌++◌, ◌∷◌, [], length, IfSome, OnOk};
+ghost use Rattle.std.specs.Prelude.{◌≡◌, ◌<◌, ◌^◌, ◌++◌, ◌∷◌, [], length, IfSome, OnOk};
 ghost use Rattle.std.specs.List.{flat_map, AllByRecursion};
 ghost use Rattle.std.specs.Int.{w16, w32, w64};
 ghost use Rattle.journal_entry.specs.EntryText.{number_text, byte_text, digest_text, stream_name_text, manifest_text, container_text, object_text, reply_text, list_text, seen_text, totals_text};
