@@ -1,15 +1,15 @@
 -- Laws of legal histories.
-use Rattle.std.proofs.Common.{◌≡◌, ℕ, ◌≤◌, ◌<◌, ◌+◌, get_or, subst, below_more, take, length, arith, Bool, true, false, ◌&&◌, List, [], ◌∷◌, ◌++◌, refl, ap, ◌∙◌, zero-add}
-use Rattle.history.specs.declared.entry.Entry.{Entry}
-use Rattle.history.specs.declared.entry.Point.{Point}
-use Rattle.history.specs.declared.entry.Point.TheVariants.{Begin, Choose, Commit, Finish, Abort, Delete, Look, Done, Reclaim, Stat}
+use Rattle.std.proofs.Common.{◌≡◌, ℕ, ◌≤◌, ◌<◌, ◌+◌, get_or, subst, below_more, take, length, arith, Bool, true, false, ◌&&◌, List, [], ◌∷◌, ◌++◌, refl, ap, ◌∙◌}
+use Rattle.journal_entry.specs.declared.entry.Entry.{Entry}
+use Rattle.journal_entry.specs.declared.entry.Point.{Point}
+use Rattle.journal_entry.specs.declared.entry.Point.TheVariants.{Begin, Choose, Commit, Finish, Abort, Delete, Look, Done, Reclaim, Stat}
 use Rattle.std.specs.Cmp.Lexicographic.{as_long}
 use Rattle.std.proofs.lemmas.List.{length-take, get_or_default}
-use Rattle.std.proofs.lemmas.List.Sums.{sum_by-append}
-use Rattle.history.specs.Need.{same_object, erasable}
+use Rattle.ss_base.specs.Ids.{same_object}
+use Rattle.history.specs.Need.{erasable}
 use Rattle.history.specs.TotalsOf.{objects_named}
 use Rattle.history.specs.declared.rules.Rules.{Rules}
-use Rattle.history.specs.Legal.{point_weight, weight, is_legal, may_follow, is_allowed, is_within}
+use Rattle.history.specs.Legal.{is_legal, may_follow, is_allowed, is_within}
 
 first_of_both : (a b : Bool) → (a && b) ≡ true → a ≡ true
 first_of_both true b e = cc
@@ -49,20 +49,6 @@ few_objects rules past author (Delete name session) allowed = omega arith
 few_objects rules past author (Look name seen) allowed = omega arith
 few_objects rules past author (Done reader) allowed = omega arith
 few_objects rules past author (Stat totals) allowed = omega arith
-
--- ---- weights
-
-pub weight-append : (xs ys : List Entry) → weight (xs ++ ys) ≡ weight xs + weight ys
-unfolding weight
-weight-append xs ys = sum_by-append (λ (entry : Entry). point_weight entry.point) xs ys
-
-pub weight_push : (xs : List Entry) (entry : Entry) → weight (xs ++ entry ∷ []) ≡ weight xs + point_weight entry.point
-unfolding weight
-weight_push xs entry = weight-append xs (entry ∷ []) ∙ ap (λ n. weight xs + n) (zero-add (point_weight entry.point))
-
-pub weight_none : weight [] ≡ 0
-unfolding weight
-weight_none = refl
 
 pub named_more : (entries : List Entry) (i : ℕ) (entry : Entry) → i < length entries → entry ≡ get_or entries i entry → ((k : ℕ) (d : Entry) → k < i → objects_named (get_or entries k d).point ≤ 16) → objects_named entry.point ≤ 16 → (k : ℕ) (d : Entry) → k < i + 1 → objects_named (get_or entries k d).point ≤ 16
 named_more entries i entry below is before here k d at =

@@ -1,8 +1,4 @@
-pub mod Names
-pub mod Loop
-pub mod Fields
-pub mod Entries
 mod Scans
-mod Objects
+mod Greatest
 mod Rounds
 pub mod LegalLaws

@@ -1,45 +1,30 @@
 -- Legal histories (this project's own): which entry is allowed after which.
-use Rattle.std.specs.Prelude.{ℕ, suc, Bool, true, false, ◌==◌, ◌&&◌, ◌||◌, not, nat_lt, nat_le, ◌+◌, List, [], ◌∷◌, length, take, sum_by, count_by, Option, Some, None, option_map, if◌then◌else◌}
+use Rattle.std.specs.Prelude.{ℕ, suc, Bool, true, false, ◌==◌, ◌&&◌, ◌||◌, not, nat_lt, nat_le, ◌+◌, List, [], ◌∷◌, length, take, count_by, Option, Some, None, option_map, if◌then◌else◌}
 use Rattle.std.specs.List.{list_any, list_all}
 use Rattle.std.specs.Option.{option_eq, option_map_or}
 use Rattle.std.specs.Cmp.Lexicographic.{pointwise}
 use Rattle.ss_base.specs.declared.ids.ContainerId.{ContainerId}
 use Rattle.ss_base.specs.declared.ids.ManifestId.{ManifestId}
 use Rattle.ss_base.specs.declared.name.Name.{Name}
-use Rattle.ss_base.specs.Champions.{same_manifest}
-use Rattle.hook_sampler.specs.Hooks.{is_hook}
-use Rattle.history.specs.declared.entry.Entry.{Entry}
-use Rattle.history.specs.declared.entry.Seen.{Seen}
-use Rattle.history.specs.declared.entry.Totals.{Totals}
-use Rattle.history.specs.declared.entry.Limits.{Limits}
+use Rattle.ss_base.specs.Ids.{same_manifest, same_object, has_container, are_distinct}
+use Rattle.ss_base.specs.Order.{are_ascending}
+use Rattle.ss_base.specs.Hook.{is_hook}
+use Rattle.journal_entry.specs.declared.entry.Entry.{Entry}
+use Rattle.journal_entry.specs.declared.entry.Seen.{Seen}
+use Rattle.journal_entry.specs.declared.entry.Totals.{Totals}
+use Rattle.history.specs.declared.rules.Limits.{Limits}
 use Rattle.history.specs.declared.rules.Rules.{Rules}
-use Rattle.history.specs.declared.entry.Point.{Point}
-use Rattle.history.specs.declared.entry.Point.TheVariants.{Begin, Choose, Commit, Finish, Abort, Delete, Look, Done, Reclaim, Stat}
-use Rattle.history.specs.Reading.{are_counts}
+use Rattle.journal_entry.specs.declared.entry.Point.{Point}
+use Rattle.journal_entry.specs.declared.entry.Point.TheVariants.{Begin, Choose, Commit, Finish, Abort, Delete, Look, Done, Reclaim, Stat}
+use Rattle.journal_entry.specs.Bounds.{are_counts}
+use Rattle.journal_entry.specs.Weight.{weight}
 use Rattle.history.specs.Sessions.{session_begun, session_count, reading_begun, reading_count, is_unfinished, is_reading, is_held, retained, is_begun_by, is_looked_by, commits_of, is_pending, pending_champions, has}
-use Rattle.history.specs.StandingList.{has_name, champions_for}
-use Rattle.history.specs.Need.{same_object, has_container, erasable}
+use Rattle.history.specs.StandingList.{champions_for}
+use Rattle.history.specs.OwnEnd.{own_end}
+use Rattle.history.specs.Need.{erasable}
 use Rattle.history.specs.TotalsOf.{totals}
 
--- ---- lists
-
--- whether no name stands twice
-unfoldable pub is_distinct : List Name → Bool
-is_distinct [] = true
-is_distinct (name ∷ names) = not (has_name name names) && is_distinct names
-
-abbrev pub is_container_before : ContainerId → ContainerId → Bool
-is_container_before a b = nat_lt a.session b.session || ((a.session == b.session) && nat_lt a.ordinal b.ordinal)
-
--- whether the container comes before the first of the containers
-unfoldable pub is_before_first : ContainerId → List ContainerId → Bool
-is_before_first id [] = true
-is_before_first id (other ∷ ids) = is_container_before id other
-
--- whether the containers are ascending, and so distinct
-unfoldable pub is_ascending : List ContainerId → Bool
-is_ascending [] = true
-is_ascending (id ∷ ids) = is_before_first id ids && is_ascending ids
+-- ---- replies
 
 abbrev pub same_seen : Seen → Seen → Bool
 same_seen a b = (a.reader == b.reader) && (a.session == b.session)
@@ -68,7 +53,7 @@ reply_to_look name past = option_map (λ session. record { reader = reading_coun
 
 -- distinct hooks, at most 4,096, each with so many zero bits
 unfoldable pub are_hooks : ℕ → List Name → Bool
-are_hooks bits hooks = is_distinct hooks && (nat_le (length hooks) 4096 && list_all (is_hook bits) hooks)
+are_hooks bits hooks = are_distinct hooks && (nat_le (length hooks) 4096 && list_all (is_hook bits) hooks)
 
 -- whether an entry commits the manifest with chunks in the container
 unfoldable pub lists_use : ManifestId → ContainerId → Point → Bool
@@ -88,21 +73,7 @@ is_use session champions past id =
 -- ascending, at most 4,096, and each is one that the session may use
 unfoldable pub are_uses : ℕ → List Entry → List ContainerId → Bool
 are_uses session past uses =
-    is_ascending uses && (nat_le (length uses) 4096 && list_all (is_use session (pending_champions session past) past) uses)
-
--- whether the session's own among the containers are below a number
-unfoldable pub are_own_below : ℕ → ℕ → List ContainerId → Bool
-are_own_below session n uses = list_all (λ (id : ContainerId). not (id.session == session) || nat_lt id.ordinal n) uses
-
--- whether the session's own containers that an entry commits are below a number
-unfoldable pub is_own_below : ℕ → ℕ → Point → Bool
-is_own_below session n (Commit manifest content text chunks bytes fresh fresh_bytes uses) =
-    not (manifest.session == session) || are_own_below session n uses
-is_own_below session n _ = true
-
--- whether a number is above each own ordinal that the session used
-unfoldable pub is_above_own : ℕ → ℕ → List Entry → Bool
-is_above_own session n past = list_all (λ (entry : Entry). is_own_below session n entry.point) past
+    are_ascending uses && (nat_le (length uses) 4096 && list_all (is_use session (pending_champions session past) past) uses)
 
 -- the session's commits, or, where a choice is pending, that number or one more
 unfoldable pub are_texts : ℕ → ℕ → List Entry → Bool
@@ -117,7 +88,7 @@ is_allowed rules past author (Choose session hooks champions) =
     is_open_to author session past
     && (not (is_pending session past)
     && (are_hooks rules.bits hooks
-    && pointwise same_manifest champions (champions_for rules.champions rules.standings hooks past)))
+    && pointwise same_manifest champions (champions_for rules hooks past)))
 is_allowed rules past author (Commit manifest content text chunks bytes fresh fresh_bytes uses) =
     is_open_to author manifest.session past
     && (is_pending manifest.session past
@@ -127,10 +98,10 @@ is_allowed rules past author (Commit manifest content text chunks bytes fresh fr
 is_allowed rules past author (Finish session containers) =
     is_open_to author session past
     && (not (is_pending session past)
-    && is_above_own session containers past)
+    && nat_le (own_end session past) containers)
 is_allowed rules past author (Abort session containers texts) =
     is_open_to author session past
-    && (is_above_own session containers past
+    && (nat_le (own_end session past) containers
     && are_texts session texts past)
 is_allowed rules past author (Delete name session) = option_eq (λ a b. a == b) session (retained name past)
 is_allowed rules past author (Look name seen) = option_eq same_seen seen (reply_to_look name past)
@@ -152,16 +123,6 @@ unfinished_sessions past = count_by (λ (entry : Entry). begins_unfinished past 
 
 unfoldable pub unfinished_readings : List Entry → ℕ
 unfinished_readings past = count_by (λ (entry : Entry). looks_unfinished past entry.point) past
-
--- how many names of hooks and containers an entry lists
-unfoldable pub point_weight : Point → ℕ
-point_weight (Choose session hooks champions) = length hooks
-point_weight (Commit manifest content text chunks bytes fresh fresh_bytes uses) = length uses
-point_weight _ = 0
-
--- the names of hooks and containers that the entries list
-unfoldable pub weight : List Entry → ℕ
-weight past = sum_by (λ (entry : Entry). point_weight entry.point) past
 
 -- whether the entries fit the limits, with room for an entry that ends each unfinished session and reading
 unfoldable pub is_within : Limits → List Entry → Bool

@@ -1,12 +1,11 @@
 -- The totals of a history (this project's own).
 use Rattle.std.specs.Prelude.{ℕ, Bool, false, List, length, sum_by, count_by, if◌then◌else◌}
 use Rattle.std.specs.Option.{option_map_or}
-use Rattle.history.specs.declared.entry.Entry.{Entry}
-use Rattle.history.specs.declared.entry.Totals.{Totals}
-use Rattle.history.specs.declared.entry.Point.{Point}
-use Rattle.history.specs.declared.entry.Point.TheVariants.{Commit, Reclaim}
+use Rattle.journal_entry.specs.declared.entry.Entry.{Entry}
+use Rattle.journal_entry.specs.declared.entry.Totals.{Totals}
+use Rattle.journal_entry.specs.declared.entry.Point.{Point}
+use Rattle.journal_entry.specs.declared.entry.Point.TheVariants.{Commit, Finish, Abort, Reclaim}
 use Rattle.history.specs.Sessions.{session_begun, is_retained}
-use Rattle.history.specs.Need.{containers_closed}
 
 -- whether an entry began a session whose stream is retained
 unfoldable pub stream_began : List Entry → Point → Bool
@@ -21,6 +20,12 @@ bytes_retained past _ = 0
 unfoldable pub bytes_stored : Point → ℕ
 bytes_stored (Commit manifest content text chunks bytes fresh fresh_bytes uses) = fresh_bytes
 bytes_stored _ = 0
+
+-- how many containers an entry closes its session with
+unfoldable pub containers_closed : Point → ℕ
+containers_closed (Finish session containers) = containers
+containers_closed (Abort session containers texts) = containers
+containers_closed _ = 0
 
 -- how many objects an entry gives over to be removed
 unfoldable pub objects_named : Point → ℕ

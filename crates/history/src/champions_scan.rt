@@ -3,9 +3,9 @@ ghost use Rattle.std.specs.Prelude.{◌≡◌, ◌≤◌, ◌^◌, length, rever
 ghost use Rattle.ss_base.specs.Champions.{stands_in, hooks_covered, is_at_least, candidates, is_unbeaten, best, uncovered, champions};
 ghost use Rattle.history.specs.StandingList.{standing, champions_for};
 
-use crate::need_scan::same_manifest;
+use crate::ids::same_manifest;
 use crate::standing_scan::standing;
-use crate::{Entry, Items};
+use crate::{Entry, Items, Rules};
 use ss_base::{ManifestId, Memory, Name, Standing};
 use std::alloc::Global;
 
@@ -109,16 +109,15 @@ fn champions(
 #[tactic(auto, unfolding(crate::specs::StandingList::champions_for))]
 pub(crate) fn champions_for(
     alloc: Global,
-    rounds: u32,
-    bound: usize,
+    rules: &Rules,
     hooks: &[Name],
     entries: &[Entry],
 ) -> Result<Vec<ManifestId>, Memory>
     requires { length entries.now ≤ 2 ^ 32 }
-    ensures { IfOk result (λ ids. ids.items ≡ champions_for rounds bound hooks.now (reverse entries.now)) }
+    ensures { IfOk result (λ ids. ids.items ≡ champions_for rules.now hooks.now (reverse entries.now)) }
 {
-    let lists = standing_lists(alloc, bound, hooks, entries)?;
-    champions(alloc, rounds, lists)
+    let lists = standing_lists(alloc, rules.standings as usize, hooks, entries)?;
+    champions(alloc, rules.champions, lists)
 }
 
 // What stands at each of the hooks.

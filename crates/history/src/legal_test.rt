@@ -1,25 +1,27 @@
 // Whether a history is legal, entry by entry.
-ghost use Rattle.std.specs.Prelude.{◌≡◌, ◌+◌, ◌≤◌, ◌<◌, ◌^◌, ◌==◌, ◌&&◌, not, true, false, All, length, reverse, take, IfOk, IfNone, IfSome};
+ghost use Rattle.std.specs.Prelude.{◌≡◌, ◌+◌, ◌≤◌, ◌<◌, ◌^◌, ◌==◌, ◌&&◌, not, nat_le, true, false, All, length, reverse, take, IfOk, IfNone, IfSome};
 ghost use Rattle.std.specs.Cmp.Lexicographic.{pointwise};
 ghost use Rattle.std.specs.Option.{option_eq};
-ghost use Rattle.ss_base.specs.Champions.{same_manifest};
-ghost use Rattle.history.specs.declared.entry.Entry.{Entry};
+ghost use Rattle.ss_base.specs.Ids.{same_manifest, same_object};
+ghost use Rattle.journal_entry.specs.declared.entry.Entry.{Entry};
 ghost use Rattle.history.specs.TotalsOf.{objects_named, totals};
-ghost use Rattle.history.specs.Need.{same_object, erasable};
-ghost use Rattle.history.specs.declared.entry.Point.TheVariants.{Choose};
+ghost use Rattle.history.specs.Need.{erasable};
+ghost use Rattle.journal_entry.specs.declared.entry.Point.TheVariants.{Choose};
 ghost use Rattle.history.specs.Sessions.{is_pending, commits_of};
-ghost use Rattle.history.specs.Legal.{same_seen, same_totals, is_open_to, is_above_own, are_texts, is_allowed, may_follow, is_legal};
+ghost use Rattle.history.specs.OwnEnd.{own_end};
+ghost use Rattle.history.specs.Legal.{same_seen, same_totals, is_open_to, are_texts, is_allowed, is_legal};
 
 use crate::champions_scan::champions_for;
-use crate::decoding::are_counts;
-use crate::legality::{
-    are_hooks, are_texts, are_uses, is_above_own, is_open_to, is_within, reply_to_begin,
-    reply_to_look,
-};
-use crate::need_scan::{erasable, same_object};
-use crate::session_scan::{commits_of, is_looked_by, is_pending, is_reading, retained};
+use crate::choice_scan::is_pending;
+use crate::ids::same_object;
+use crate::legality::{are_hooks, are_texts, are_uses, is_open_to, is_within};
+use crate::need_scan::erasable;
+use crate::own_ends::own_end;
+use crate::reading_scan::{is_looked_by, is_reading};
+use crate::replies::{reply_to_begin, reply_to_look};
+use crate::session_scan::{commits_of, retained};
 use crate::totals_scan::totals;
-use crate::{Entry, Items, Point, Rules, Seen, Totals};
+use crate::{Entry, Items, Point, Rules, Seen, Totals, are_counts};
 use ss_base::{ManifestId, Memory, Name, Object};
 use std::alloc::Global;
 
@@ -87,8 +89,7 @@ fn is_choice_allowed(
     ensures { IfOk result (λ allowed. allowed ≡ is_allowed rules.now (reverse before.now) author (Choose session hooks.now champions.now)) }
 {
     let hooks = hooks.as_slice();
-    let bound = rules.standings as usize;
-    let found = champions_for(alloc, rules.champions, bound, hooks, before)?;
+    let found = champions_for(alloc, rules, hooks, before)?;
     Ok(
         is_open_to(author, session, before)
             && !is_pending(session, before)
@@ -109,11 +110,11 @@ fn is_next(author: u32, manifest: ManifestId, before: &[Entry]) -> bool
 
 fn is_finish_allowed(before: &[Entry], author: u32, session: u32, containers: u32) -> bool
     ensures { let past = reverse before.now in
-        result ≡ (is_open_to author session past && (not (is_pending session past) && is_above_own session containers past)) }
+        result ≡ (is_open_to author session past && (not (is_pending session past) && nat_le (own_end session past) containers)) }
 {
     is_open_to(author, session, before)
         && !is_pending(session, before)
-        && is_above_own(session, containers, before)
+        && own_end(before, session) <= u64::from(containers)
 }
 
 fn is_abort_allowed(
@@ -125,10 +126,10 @@ fn is_abort_allowed(
 ) -> bool
     requires { length before.now < 2 ^ 32 }
     ensures { let past = reverse before.now in
-        result ≡ (is_open_to author session past && (is_above_own session containers past && are_texts session texts past)) }
+        result ≡ (is_open_to author session past && (nat_le (own_end session past) containers && are_texts session texts past)) }
 {
     is_open_to(author, session, before)
-        && is_above_own(session, containers, before)
+        && own_end(before, session) <= u64::from(containers)
         && are_texts(session, texts, before)
 }
 
@@ -168,7 +169,7 @@ fn is_allowed(
     ensures { IfOk result (λ allowed. allowed ≡ is_allowed rules.now (reverse before.now) author point.now) }
 {
     match point {
-        Point::Begin { name, session } => Ok(same_replies(*session, reply_to_begin(name, before))),
+        Point::Begin { name, session } => Ok(same_replies(*session, reply_to_begin(before, name))),
         Point::Choose {
             session,
             hooks,
@@ -196,8 +197,8 @@ fn is_allowed(
             containers,
             texts,
         } => Ok(is_abort_allowed(before, author, *session, *containers, *texts)),
-        Point::Delete { name, session } => Ok(same_replies(*session, retained(name, before))),
-        Point::Look { name, seen } => Ok(same_sights(*seen, reply_to_look(name, before))),
+        Point::Delete { name, session } => Ok(same_replies(*session, retained(before, name))),
+        Point::Look { name, seen } => Ok(same_sights(*seen, reply_to_look(before, name))),
         Point::Done { reader } => {
             Ok(is_reading(*reader, before) && is_looked_by(author, *reader, before))
         }
@@ -224,7 +225,7 @@ pub fn first_illegal(
         if !is_allowed(alloc, rules, &entries[..i], entry.author, &entry.point)? {
             return Ok(Some(i));
         }
-        if !is_within(&rules.limits, &entries[..i + 1]) {
+        if !is_within(&entries[..i + 1], &rules.limits) {
             return Ok(Some(i));
         }
     }

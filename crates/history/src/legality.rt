@@ -1,72 +1,17 @@
 // Which entry is allowed after which, by scanning the entries before it.
-ghost use Rattle.std.specs.Prelude.{◌≡◌, ◌+◌, ◌≤◌, ◌<◌, ◌^◌, ◌==◌, ◌&&◌, not, nat_le, All, length, reverse, take, IfOk, IfNone, IfSome};
+ghost use Rattle.std.specs.Prelude.{◌≡◌, ◌≤◌, ◌<◌, ◌^◌, nat_le, length, reverse};
 ghost use Rattle.std.specs.List.{list_all};
-ghost use Rattle.std.specs.Cmp.Lexicographic.{pointwise};
-ghost use Rattle.std.specs.Option.{option_eq};
-ghost use Rattle.ss_base.specs.Champions.{same_manifest};
-ghost use Rattle.hook_sampler.specs.Hooks.{is_hook};
-ghost use Rattle.history.specs.Reading.{are_counts};
-ghost use Rattle.history.specs.Bounds.{IsWithinBounds};
-ghost use Rattle.history.specs.Sessions.{has, is_pending, commits_of, is_reading, is_looked_by};
-ghost use Rattle.history.specs.StandingList.{champions_for};
-ghost use Rattle.history.specs.Need.{erasable, same_object};
-ghost use Rattle.history.specs.Legal.{is_distinct, is_container_before, is_before_first, is_ascending, is_open_to, reply_to_begin, reply_to_look, are_hooks, lists_use, is_use_of_any, is_use, are_uses, are_own_below, is_own_below, is_above_own, are_texts, begins_unfinished, looks_unfinished, unfinished_sessions, unfinished_readings, point_weight, weight, is_within};
+ghost use Rattle.ss_base.specs.Hook.{is_hook};
+ghost use Rattle.journal_entry.specs.Weight.{weight};
+ghost use Rattle.history.specs.Sessions.{has};
+ghost use Rattle.history.specs.Legal.{is_open_to, are_hooks, lists_use, is_use_of_any, is_use, are_uses, are_texts, begins_unfinished, looks_unfinished, unfinished_sessions, unfinished_readings, is_within};
 
-use crate::champions_scan::champions_for;
-use crate::need_scan::{has_container, same_manifest};
-use crate::session_scan::{
-    commits_of, is_begun_by, is_held, is_pending, is_reading, is_unfinished, pending_champions,
-    reading_begun, reading_count, retained, session_begun, session_count,
-};
-use crate::standing_scan::has_name;
-use crate::{Entry, Limits, Point, Seen};
-use ss_base::{ContainerId, ManifestId, Memory, Name, StreamName};
-use std::alloc::Global;
-
-#[tactic(auto, unfolding(crate::specs::Legal::is_distinct))]
-fn is_distinct(names: &[Name]) -> bool
-    ensures { result ≡ is_distinct names.now }
-{
-    match names {
-        [] => true,
-        [name, rest @ ..] => !has_name(name, rest) && is_distinct(rest),
-    }
-}
-
-fn is_container_before(a: ContainerId, b: ContainerId) -> bool
-    ensures { result ≡ is_container_before a b }
-{
-    a.session < b.session || (a.session == b.session && a.ordinal < b.ordinal)
-}
-
-#[tactic(auto, unfolding(crate::specs::Legal::is_before_first))]
-fn is_before_first(id: ContainerId, ids: &[ContainerId]) -> bool
-    ensures { result ≡ is_before_first id ids.now }
-{
-    match ids {
-        [] => true,
-        [other, ..] => is_container_before(id, *other),
-    }
-}
-
-#[tactic(auto, unfolding(crate::specs::Legal::is_ascending))]
-fn is_ascending(ids: &[ContainerId]) -> bool
-    ensures { result ≡ is_ascending ids.now }
-{
-    match ids {
-        [] => true,
-        [id, rest @ ..] => is_before_first(*id, rest) && is_ascending(rest),
-    }
-}
-
-// Whether the first bits bits of the name are zero.
-fn is_hook(name: &Name, bits: u32) -> bool
-    requires { bits ≤ 32 }
-    ensures { result ≡ is_hook bits name.now }
-{
-    let [a, b, c, d, ..] = name.0;
-    u64::from(u32::from_be_bytes([a, b, c, d])) >> (32 - bits) == 0
-}
+use crate::choice_scan::{is_pending, pending_champions};
+use crate::ids::{are_ascending, are_distinct, has_container, is_hook, same_manifest};
+use crate::reading_scan::{is_reading, reading_begun};
+use crate::session_scan::{commits_of, is_begun_by, is_unfinished, session_begun};
+use crate::{Entry, Limits, Point, point_weight};
+use ss_base::{ContainerId, ManifestId, Name};
 
 fn all_are_hooks(bits: u32, hooks: &[Name]) -> bool
     requires { bits ≤ 32 }
@@ -80,7 +25,7 @@ pub(crate) fn are_hooks(bits: u32, hooks: &[Name]) -> bool
     requires { bits ≤ 32 }
     ensures { result ≡ are_hooks bits hooks.now }
 {
-    hooks.len() <= 4096 && is_distinct(hooks) && all_are_hooks(bits, hooks)
+    hooks.len() <= 4096 && are_distinct(hooks) && all_are_hooks(bits, hooks)
 }
 
 #[tactic(auto, unfolding(crate::specs::Legal::is_open_to))]
@@ -88,32 +33,6 @@ pub(crate) fn is_open_to(author: u32, session: u32, entries: &[Entry]) -> bool
     ensures { result ≡ is_open_to author session (reverse entries.now) }
 {
     is_unfinished(session, entries) && is_begun_by(author, session, entries)
-}
-
-#[tactic(auto, unfolding(crate::specs::Legal::reply_to_begin))]
-pub(crate) fn reply_to_begin(name: &StreamName, entries: &[Entry]) -> Option<u32>
-    requires { length entries.now < 2 ^ 32 }
-    ensures { result ≡ reply_to_begin name.now (reverse entries.now) }
-{
-    if is_held(name, entries) {
-        None
-    } else {
-        Some(session_count(entries) as u32)
-    }
-}
-
-#[tactic(auto, unfolding(crate::specs::Legal::reply_to_look))]
-pub(crate) fn reply_to_look(name: &StreamName, entries: &[Entry]) -> Option<Seen>
-    requires { length entries.now < 2 ^ 32 }
-    ensures { result ≡ reply_to_look name.now (reverse entries.now) }
-{
-    match retained(name, entries) {
-        Some(session) => {
-            let reader = reading_count(entries) as u32;
-            Some(Seen { reader, session })
-        }
-        None => None,
-    }
 }
 
 #[tactic(auto, unfolding(crate::specs::Legal::lists_use))]
@@ -170,38 +89,8 @@ fn all_are_uses(
 pub(crate) fn are_uses(session: u32, entries: &[Entry], uses: &[ContainerId]) -> bool
     ensures { result ≡ are_uses session (reverse entries.now) uses.now }
 {
-    let champions = pending_champions(session, entries);
-    is_ascending(uses) && uses.len() <= 4096 && all_are_uses(session, champions, entries, uses)
-}
-
-#[tactic(auto, unfolding(crate::specs::Legal::are_own_below))]
-fn are_own_below(session: u32, n: u32, uses: &[ContainerId]) -> bool
-    ensures { result ≡ are_own_below session n uses.now }
-{
-    uses.iter()
-        .all(|id| id.session != session || id.ordinal < n)
-}
-
-#[tactic(auto, unfolding(crate::specs::Legal::is_own_below))]
-fn is_own_below(session: u32, n: u32, point: &Point) -> bool
-    ensures { result ≡ is_own_below session n point.now }
-{
-    match point {
-        Point::Commit { manifest, uses, .. } => {
-            manifest.session != session || are_own_below(session, n, uses.as_slice())
-        }
-        _ => true,
-    }
-}
-
-#[tactic(auto, unfolding(crate::specs::Legal::is_above_own))]
-pub(crate) fn is_above_own(session: u32, n: u32, entries: &[Entry]) -> bool
-    ensures { result ≡ is_above_own session n (reverse entries.now) }
-{
-    entries
-        .iter()
-        .rev()
-        .all(|e| is_own_below(session, n, &e.point))
+    let champions = pending_champions(entries, session);
+    are_ascending(uses) && uses.len() <= 4096 && all_are_uses(session, champions, entries, uses)
 }
 
 #[tactic(auto, unfolding(crate::specs::Legal::are_texts))]
@@ -259,17 +148,6 @@ fn unfinished_readings(entries: &[Entry]) -> usize
     count
 }
 
-#[tactic(auto, unfolding(crate::specs::Legal::point_weight))]
-fn point_weight(point: &Point) -> usize
-    ensures { result ≡ point_weight point.now }
-{
-    match point {
-        Point::Choose { hooks, .. } => hooks.as_slice().len(),
-        Point::Commit { uses, .. } => uses.as_slice().len(),
-        _ => 0,
-    }
-}
-
 // Whether the entries' weight is at most a limit. It stops at the first entry with which it is more.
 fn is_weight_within(limit: u32, entries: &[Entry]) -> bool
     ensures { result ≡ nat_le (weight (reverse entries.now)) limit }
@@ -285,8 +163,10 @@ fn is_weight_within(limit: u32, entries: &[Entry]) -> bool
     true
 }
 
+/// Whether the entries fit the limits, with room for an entry that ends each unfinished session and reading. They are
+/// fewer than 2^32.
 #[tactic(auto, unfolding(crate::specs::Legal::is_within))]
-pub(crate) fn is_within(limits: &Limits, entries: &[Entry]) -> bool
+pub fn is_within(entries: &[Entry], limits: &Limits) -> bool
     requires { length entries.now < 2 ^ 32 }
     ensures { result ≡ is_within limits.now (reverse entries.now) }
 {

@@ -1,42 +1,45 @@
-//! The history of a store: the entries of its journal, as values and as bytes.
+//! The history of a store: what the entries of its journal say of sessions, hooks and objects, and which may follow.
 #![tactic(auto)]
 
 mod champions_scan;
-mod decoding;
-mod encoding;
-mod entry;
-mod fault;
-mod item;
-mod items;
-mod laws;
+mod choice_scan;
+mod ids;
+mod known_scan;
 mod legal_test;
 mod legality;
 mod logged;
 mod need_scan;
-mod reading;
+mod own_ends;
+mod reading_scan;
+mod replies;
 mod rules;
 mod session_scan;
 mod standing_scan;
 mod totals_scan;
-mod writing;
 
-pub use decoding::decode_entry;
-pub use encoding::encode_entry;
-pub use entry::{Entry, Limits, Point, Seen, Totals};
-pub use items::Items;
-pub use laws::one_reading;
+pub use choice_scan::pending_champions;
+pub use journal_entry::{
+    Entry, Items, Point, Seen, Totals, are_counts, decode_entry, encode_entry, one_reading,
+    point_weight,
+};
 pub use legal_test::first_illegal;
+pub use legality::is_within;
 pub use logged::Logged;
 pub use need_scan::erasable;
-pub use rules::Rules;
+pub use own_ends::own_end;
+pub use replies::{reply_to_begin, reply_to_look};
+pub use rules::{Limits, Rules};
+pub use session_scan::{is_held, retained};
 pub use standing_scan::standing;
 pub use totals_scan::totals;
 
 #[cfg(test)]
-mod legal_tests;
+mod entry_rule_tests;
 #[cfg(test)]
-mod row_tests;
+mod entry_tables;
 #[cfg(test)]
-mod test_entries;
+mod scan_tests;
 #[cfg(test)]
-mod tests;
+mod short_histories;
+#[cfg(test)]
+mod worked_history_tests;

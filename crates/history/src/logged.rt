@@ -3,7 +3,7 @@
 /// A value that holds a list of entries. It has no calls.
 pub trait Logged {
     ghost use Rattle.std.specs.Prelude.{List, ℕ};
-    ghost use Rattle.history.specs.declared.entry.Entry.{Entry};
+    ghost use Rattle.journal_entry.specs.declared.entry.Entry.{Entry};
 
     // The entries that the value holds, the oldest first.
     ghost entries: { Self → List Entry };

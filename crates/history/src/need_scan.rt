@@ -1,60 +1,16 @@
 // What a history still needs, and what can be erased, by scanning its entries.
-ghost use Rattle.std.specs.Prelude.{◌≡◌, ◌<◌, ◌≤◌, ◌^◌, ◌++◌, length, reverse, filter, IfOk};
-ghost use Rattle.ss_base.specs.Champions.{same_manifest};
+ghost use Rattle.std.specs.Prelude.{◌≡◌, ◌<◌, ◌^◌, length, reverse, IfOk};
 ghost use Rattle.history.specs.Sessions.{has};
-ghost use Rattle.history.specs.StandingList.{has_manifest};
-ghost use Rattle.history.specs.Need.{same_container, same_object, has_container, has_object, is_champion, is_being_read, is_pinned, commits_manifest, is_live, uses_live, is_needed, containers_closed, texts_closed, known_containers, known_manifests, containers_below, manifests_below, all_containers, all_manifests, reclaims, is_wanted, is_erasable, erasable};
+ghost use Rattle.history.specs.Need.{is_champion, is_being_read, is_pinned, commits_manifest, is_live, uses_live, is_needed, reclaims, is_wanted, is_erasable, erasable};
 
-use crate::session_scan::{
-    closing, commits_of, is_reading, is_retained, is_unfinished, pending_champions, reading_begun,
-    session_begun, session_count,
-};
+use crate::choice_scan::pending_champions;
+use crate::ids::{has_container, has_manifest, has_object, same_manifest};
+use crate::known_scan::known;
+use crate::reading_scan::{is_reading, reading_begun};
+use crate::session_scan::{is_retained, is_unfinished, session_begun};
 use crate::{Entry, Point};
 use ss_base::{ContainerId, ManifestId, Memory, Object};
 use std::alloc::Global;
-
-pub(crate) fn same_manifest(a: ManifestId, b: ManifestId) -> bool
-    ensures { result ≡ same_manifest a b }
-{
-    a == b
-}
-
-pub(crate) fn same_container(a: ContainerId, b: ContainerId) -> bool
-    ensures { result ≡ same_container a b }
-{
-    a == b
-}
-
-pub(crate) fn same_object(a: &Object, b: &Object) -> bool
-    ensures { result ≡ same_object a.now b.now }
-{
-    match (a, b) {
-        (Object::Container(a), Object::Container(b)) => same_container(*a, *b),
-        (Object::Manifest(a), Object::Manifest(b)) => same_manifest(*a, *b),
-        _ => false,
-    }
-}
-
-#[tactic(auto, unfolding(crate::specs::StandingList::has_manifest))]
-pub(crate) fn has_manifest(id: ManifestId, ids: &[ManifestId]) -> bool
-    ensures { result ≡ has_manifest id ids.now }
-{
-    ids.iter().any(|other| same_manifest(id, *other))
-}
-
-#[tactic(auto, unfolding(crate::specs::Need::has_container))]
-pub(crate) fn has_container(id: ContainerId, ids: &[ContainerId]) -> bool
-    ensures { result ≡ has_container id ids.now }
-{
-    ids.iter().any(|other| same_container(id, *other))
-}
-
-#[tactic(auto, unfolding(crate::specs::Need::has_object))]
-fn has_object(object: &Object, objects: &[Object]) -> bool
-    ensures { result ≡ has_object object.now objects.now }
-{
-    objects.iter().any(|other| same_object(object, other))
-}
 
 #[tactic(auto, unfolding(crate::specs::Need::is_champion, crate::specs::Sessions::sessions))]
 fn is_champion(id: ManifestId, entries: &[Entry]) -> bool
@@ -64,7 +20,7 @@ fn is_champion(id: ManifestId, entries: &[Entry]) -> bool
         .iter()
         .rev()
         .filter_map(|e| session_begun(&e.point))
-        .any(|session| has_manifest(id, pending_champions(session, entries)))
+        .any(|session| has_manifest(id, pending_champions(entries, session)))
 }
 
 #[tactic(auto, unfolding(crate::specs::Need::is_being_read, crate::specs::Sessions::readings))]
@@ -141,50 +97,6 @@ fn is_needed(id: ContainerId, entries: &[Entry]) -> bool
     is_unfinished(id.session, entries) || has_live_use(id, entries)
 }
 
-#[tactic(auto, unfolding(crate::specs::Need::containers_closed))]
-pub(crate) fn containers_closed(point: &Point) -> u32
-    ensures { result ≡ containers_closed point.now }
-{
-    match point {
-        Point::Finish { containers, .. } => *containers,
-        Point::Abort { containers, .. } => *containers,
-        _ => 0,
-    }
-}
-
-#[tactic(auto, unfolding(crate::specs::Need::texts_closed))]
-fn texts_closed(entries: &[Entry], point: &Point) -> u32
-    requires { length entries.now < 2 ^ 32 }
-    ensures { result ≡ texts_closed (reverse entries.now) point.now }
-{
-    match point {
-        Point::Finish { session, .. } => commits_of(*session, entries) as u32,
-        Point::Abort { texts, .. } => *texts,
-        _ => 0,
-    }
-}
-
-#[tactic(auto, unfolding(crate::specs::Need::known_containers, crate::specs::Need::closing))]
-fn known_containers(session: u32, entries: &[Entry]) -> u32
-    ensures { result ≡ known_containers session (reverse entries.now) }
-{
-    match closing(session, entries) {
-        Some(entry) => containers_closed(&entry.point),
-        None => 0,
-    }
-}
-
-#[tactic(auto, unfolding(crate::specs::Need::known_manifests, crate::specs::Need::closing))]
-fn known_manifests(session: u32, entries: &[Entry]) -> u32
-    requires { length entries.now < 2 ^ 32 }
-    ensures { result ≡ known_manifests session (reverse entries.now) }
-{
-    match closing(session, entries) {
-        Some(entry) => texts_closed(entries, &entry.point),
-        None => 0,
-    }
-}
-
 #[tactic(auto, unfolding(crate::specs::Need::reclaims))]
 fn reclaims(object: &Object, point: &Point) -> bool
     ensures { result ≡ reclaims object.now point.now }
@@ -219,80 +131,16 @@ pub(crate) fn is_erasable(object: &Object, entries: &[Entry]) -> bool
     !is_reclaimed(object, entries) && !is_wanted(object, entries)
 }
 
-// Those of the first n containers of a session that can be erased.
-fn erasable_containers(
-    alloc: Global,
-    session: u32,
-    n: u32,
-    entries: &[Entry],
-) -> Result<Vec<Object>, Memory>
-    ensures { IfOk result (λ found. found.items ≡ filter (λ object. is_erasable object (reverse entries.now)) (containers_below session n)) }
-{
-    let mut found = Vec::new(alloc);
-    for ordinal in 0..n {
-        let object = Object::Container(ContainerId { session, ordinal });
-        if is_erasable(&object, entries) {
-            found.push(object)?;
-        }
-    }
-    Ok(found)
-}
-
-// Those of the first n manifests of a session that can be erased.
-fn erasable_manifests(
-    alloc: Global,
-    session: u32,
-    n: u32,
-    entries: &[Entry],
-) -> Result<Vec<Object>, Memory>
-    ensures { IfOk result (λ found. found.items ≡ filter (λ object. is_erasable object (reverse entries.now)) (manifests_below session n)) }
-{
-    let mut found = Vec::new(alloc);
-    for seq in 0..n {
-        let object = Object::Manifest(ManifestId { session, seq });
-        if is_erasable(&object, entries) {
-            found.push(object)?;
-        }
-    }
-    Ok(found)
-}
-
-// The containers that can be erased.
-fn all_containers(alloc: Global, entries: &[Entry]) -> Result<Vec<Object>, Memory>
-    requires { length entries.now < 2 ^ 32 }
-    ensures { IfOk result (λ found. found.items ≡ filter (λ object. is_erasable object (reverse entries.now)) (all_containers (reverse entries.now))) }
-{
-    let mut found = Vec::new(alloc);
-    for session in 0..session_count(entries) as u32 {
-        let n = known_containers(session, entries);
-        let part = erasable_containers(alloc, session, n, entries)?;
-        found.extend_from_slice(part.as_slice())?;
-    }
-    Ok(found)
-}
-
-// The manifests that can be erased.
-fn all_manifests(alloc: Global, entries: &[Entry]) -> Result<Vec<Object>, Memory>
-    requires { length entries.now < 2 ^ 32 }
-    ensures { IfOk result (λ found. found.items ≡ filter (λ object. is_erasable object (reverse entries.now)) (all_manifests (reverse entries.now))) }
-{
-    let mut found = Vec::new(alloc);
-    for session in 0..session_count(entries) as u32 {
-        let n = known_manifests(session, entries);
-        let part = erasable_manifests(alloc, session, n, entries)?;
-        found.extend_from_slice(part.as_slice())?;
-    }
-    Ok(found)
-}
-
 /// The objects that can be erased, in the order of objects: those of closed sessions that no Reclaim has named,
 /// containers that are not needed, and manifests that are not live. The entries are fewer than 2^32.
+#[tactic(auto, unfolding(crate::specs::Need::erasable))]
 pub fn erasable(alloc: Global, entries: &[Entry]) -> Result<Vec<Object>, Memory>
     requires { length entries.now < 2 ^ 32 }
     ensures { IfOk result (λ objects. objects.items ≡ erasable (reverse entries.now)) }
 {
-    let mut objects = all_containers(alloc, entries)?;
-    let manifests = all_manifests(alloc, entries)?;
-    objects.extend_from_slice(manifests.as_slice())?;
+    let objects = known(alloc, entries)?
+        .into_iter()
+        .filter(|object| is_erasable(object, entries))
+        .collect(alloc)?;
     Ok(objects)
 }

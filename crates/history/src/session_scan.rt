@@ -1,9 +1,9 @@
-// Sessions and readers of a history, by scanning its entries from the newest one backwards.
-ghost use Rattle.std.specs.Prelude.{◌≡◌, ◌≤◌, length, reverse, option_map, option_copied};
-ghost use Rattle.history.specs.Sessions.{is_number, session_begun, session_under, begins_some, session_count, begins, chooses, commits, finishes, aborts, deletes, closes, has, newest, is_unfinished, is_closed, is_retained, retained, is_held, is_begun_by, commits_of, hooks_chosen, champions_chosen, last_hooks, settles, pending, is_pending, pending_champions, reading_begun, looks_some, reading_count, looks, ends, is_reading, is_looked_by};
+// Sessions of a history and the names of their streams, by scanning its entries from the newest one backwards.
+ghost use Rattle.std.specs.Prelude.{◌≡◌, ◌≤◌, length, reverse, option_copied};
+ghost use Rattle.history.specs.Sessions.{is_number, session_begun, session_under, begins_some, session_count, begins, commits, finishes, aborts, deletes, closes, has, newest, is_unfinished, is_closed, is_retained, retained, is_held, is_begun_by, commits_of};
 
-use crate::{Entry, Point, Seen};
-use ss_base::{ManifestId, Name, StreamName};
+use crate::{Entry, Point};
+use ss_base::StreamName;
 
 pub(crate) fn is_number(n: u32, number: Option<u32>) -> bool
     ensures { result ≡ is_number n number }
@@ -42,16 +42,6 @@ pub(crate) fn begins(session: u32, point: &Point) -> bool
     ensures { result ≡ begins session point.now }
 {
     is_number(session, session_begun(point))
-}
-
-#[tactic(auto, unfolding(crate::specs::Sessions::chooses))]
-pub(crate) fn chooses(session: u32, point: &Point) -> bool
-    ensures { result ≡ chooses session point.now }
-{
-    match point {
-        Point::Choose { session: other, .. } => session == *other,
-        _ => false,
-    }
 }
 
 #[tactic(auto, unfolding(crate::specs::Sessions::commits))]
@@ -143,8 +133,9 @@ pub(crate) fn is_retained(session: u32, entries: &[Entry]) -> bool
     has_finished(session, entries) && !is_deleted(session, entries)
 }
 
+/// The session whose stream is retained under the name: it finished, and was not deleted.
 #[tactic(auto, unfolding(crate::specs::Sessions::retained, crate::specs::Sessions::sessions_under))]
-pub(crate) fn retained(name: &StreamName, entries: &[Entry]) -> Option<u32>
+pub fn retained(entries: &[Entry], name: &StreamName) -> Option<u32>
     ensures { result ≡ retained name.now (reverse entries.now) }
 {
     entries
@@ -154,8 +145,9 @@ pub(crate) fn retained(name: &StreamName, entries: &[Entry]) -> Option<u32>
         .find(|session| is_retained(*session, entries))
 }
 
+/// Whether the name is held: a session that reserved it is unfinished, or its stream is retained.
 #[tactic(auto, unfolding(crate::specs::Sessions::is_held, crate::specs::Sessions::sessions_under))]
-pub(crate) fn is_held(name: &StreamName, entries: &[Entry]) -> bool
+pub fn is_held(entries: &[Entry], name: &StreamName) -> bool
     ensures { result ≡ is_held name.now (reverse entries.now) }
 {
     entries
@@ -214,175 +206,9 @@ pub(crate) fn is_begun_by(author: u32, session: u32, entries: &[Entry]) -> bool
     }
 }
 
-#[tactic(auto, unfolding(crate::specs::Sessions::hooks_chosen))]
-pub(crate) fn hooks_chosen(point: &Point) -> &[Name]
-    ensures { result.now ≡ hooks_chosen point.now }
-{
-    match point {
-        Point::Choose { hooks, .. } => hooks.as_slice(),
-        _ => &[],
-    }
-}
-
-#[tactic(auto, unfolding(crate::specs::Sessions::champions_chosen))]
-pub(crate) fn champions_chosen(point: &Point) -> Option<&[ManifestId]>
-    ensures { option_map (λ r. r.now) result ≡ champions_chosen point.now }
-{
-    match point {
-        Point::Choose { champions, .. } => Some(champions.as_slice()),
-        _ => None,
-    }
-}
-
-#[tactic(auto, unfolding(crate::specs::Sessions::newest))]
-pub(crate) fn last_choice(session: u32, entries: &[Entry]) -> Option<&Entry>
-    ensures { option_copied result ≡ newest (chooses session) (reverse entries.now) }
-{
-    entries.iter().rev().find(|e| chooses(session, &e.point))
-}
-
-#[tactic(auto, unfolding(crate::specs::Sessions::last_hooks))]
-pub(crate) fn last_hooks(session: u32, entries: &[Entry]) -> &[Name]
-    ensures { result.now ≡ last_hooks session (reverse entries.now) }
-{
-    match last_choice(session, entries) {
-        Some(entry) => hooks_chosen(&entry.point),
-        None => &[],
-    }
-}
-
-#[tactic(auto, unfolding(crate::specs::Sessions::settles))]
-pub(crate) fn settles(session: u32, point: &Point) -> bool
-    ensures { result ≡ settles session point.now }
-{
-    chooses(session, point) || commits(session, point) || aborts(session, point)
-}
-
-#[tactic(auto, unfolding(crate::specs::Sessions::newest))]
-pub(crate) fn last_settling(session: u32, entries: &[Entry]) -> Option<&Entry>
-    ensures { option_copied result ≡ newest (settles session) (reverse entries.now) }
-{
-    entries.iter().rev().find(|e| settles(session, &e.point))
-}
-
-#[tactic(auto, unfolding(crate::specs::Sessions::pending))]
-pub(crate) fn pending(session: u32, entries: &[Entry]) -> Option<&[ManifestId]>
-    ensures { option_map (λ r. r.now) result ≡ pending session (reverse entries.now) }
-{
-    match last_settling(session, entries) {
-        Some(entry) => champions_chosen(&entry.point),
-        None => None,
-    }
-}
-
-#[tactic(auto, unfolding(crate::specs::Sessions::is_pending))]
-pub(crate) fn is_pending(session: u32, entries: &[Entry]) -> bool
-    ensures { result ≡ is_pending session (reverse entries.now) }
-{
-    pending(session, entries).is_some()
-}
-
-#[tactic(auto, unfolding(crate::specs::Sessions::pending_champions))]
-pub(crate) fn pending_champions(session: u32, entries: &[Entry]) -> &[ManifestId]
-    ensures { result.now ≡ pending_champions session (reverse entries.now) }
-{
-    match pending(session, entries) {
-        Some(champions) => champions,
-        None => &[],
-    }
-}
-
-#[tactic(auto, unfolding(crate::specs::Sessions::reading_begun))]
-pub(crate) fn reading_begun(point: &Point) -> Option<Seen>
-    ensures { result ≡ reading_begun point.now }
-{
-    match point {
-        Point::Look { seen, .. } => *seen,
-        _ => None,
-    }
-}
-
-#[tactic(auto, unfolding(crate::specs::Sessions::looks_some))]
-fn looks_some(point: &Point) -> bool
-    ensures { result ≡ looks_some point.now }
-{
-    reading_begun(point).is_some()
-}
-
-pub(crate) fn reading_count(entries: &[Entry]) -> usize
-    ensures readings { result ≡ reading_count (reverse entries.now) }
-    ensures few { result ≤ length entries.now }
-{
-    let mut count = 0;
-    for entry in entries {
-        if looks_some(&entry.point) {
-            count += 1;
-        }
-    }
-    count
-}
-
-#[tactic(auto, unfolding(crate::specs::Sessions::looks))]
-pub(crate) fn looks(reader: u32, point: &Point) -> bool
-    ensures { result ≡ looks reader point.now }
-{
-    match reading_begun(point) {
-        Some(seen) => reader == seen.reader,
-        None => false,
-    }
-}
-
-#[tactic(auto, unfolding(crate::specs::Sessions::ends))]
-pub(crate) fn ends(reader: u32, point: &Point) -> bool
-    ensures { result ≡ ends reader point.now }
-{
-    match point {
-        Point::Done { reader: other } => reader == *other,
-        _ => false,
-    }
-}
-
-#[tactic(auto, unfolding(crate::specs::Sessions::has))]
-fn has_looked(reader: u32, entries: &[Entry]) -> bool
-    ensures { result ≡ has (looks reader) (reverse entries.now) }
-{
-    entries.iter().rev().any(|e| looks(reader, &e.point))
-}
-
-#[tactic(auto, unfolding(crate::specs::Sessions::has))]
-fn has_ended(reader: u32, entries: &[Entry]) -> bool
-    ensures { result ≡ has (ends reader) (reverse entries.now) }
-{
-    entries.iter().rev().any(|e| ends(reader, &e.point))
-}
-
-#[tactic(auto, unfolding(crate::specs::Sessions::is_reading))]
-pub(crate) fn is_reading(reader: u32, entries: &[Entry]) -> bool
-    ensures { result ≡ is_reading reader (reverse entries.now) }
-{
-    has_looked(reader, entries) && !has_ended(reader, entries)
-}
-
-#[tactic(auto, unfolding(crate::specs::Sessions::newest))]
-pub(crate) fn look_of(reader: u32, entries: &[Entry]) -> Option<&Entry>
-    ensures { option_copied result ≡ newest (looks reader) (reverse entries.now) }
-{
-    entries.iter().rev().find(|e| looks(reader, &e.point))
-}
-
 #[tactic(auto, unfolding(crate::specs::Sessions::newest))]
 pub(crate) fn closing(session: u32, entries: &[Entry]) -> Option<&Entry>
     ensures { option_copied result ≡ newest (closes session) (reverse entries.now) }
 {
     entries.iter().rev().find(|e| closes(session, &e.point))
-}
-
-#[tactic(auto, unfolding(crate::specs::Sessions::is_looked_by, crate::specs::Sessions::author_of))]
-pub(crate) fn is_looked_by(author: u32, reader: u32, entries: &[Entry]) -> bool
-    ensures { result ≡ is_looked_by author reader (reverse entries.now) }
-{
-    match look_of(reader, entries) {
-        Some(entry) => author == entry.author,
-        None => false,
-    }
 }

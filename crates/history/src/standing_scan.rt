@@ -1,32 +1,16 @@
-// What stands at a hook, and the champions of a segment, by scanning the entries.
+// What stands at a hook, by scanning the entries.
 ghost use Rattle.std.specs.Prelude.{◌≡◌, ◌<◌, ◌≤◌, ◌^◌, length, reverse, IfOk};
-ghost use Rattle.ss_base.specs.declared.ids.ManifestId.{ManifestId};
-ghost use Rattle.ss_base.specs.declared.ids.Standing.{Standing};
-ghost use Rattle.hook_sampler.specs.Hooks.{same_name};
-ghost use Rattle.ss_base.specs.Champions.{stands_in};
-ghost use Rattle.history.specs.StandingList.{has_name, promoted, standing_of, chosen_standings, others_standing, without_session, in_front, standing_after, standing};
+ghost use Rattle.ss_base.specs.Standings.{promoted, standing_of, chosen_standings, others_standing, without_session, in_front};
+ghost use Rattle.history.specs.StandingList.{standing_after, standing};
 
-use crate::need_scan::{has_manifest, same_manifest};
-use crate::session_scan::last_hooks;
+use crate::choice_scan::last_hooks;
+use crate::ids::{has_manifest, has_name, same_manifest};
 use crate::{Entry, Point};
 use ss_base::{ManifestId, Memory, Name, Standing};
 use std::alloc::Global;
 
-pub(crate) fn same_name(a: &Name, b: &Name) -> bool
-    ensures { result ≡ same_name a.now b.now }
-{
-    a.0 == b.0
-}
-
-#[tactic(auto, unfolding(crate::specs::StandingList::has_name))]
-pub(crate) fn has_name(name: &Name, names: &[Name]) -> bool
-    ensures { result ≡ has_name name.now names.now }
-{
-    names.iter().any(|other| same_name(name, other))
-}
-
 // Those of the champions that stood, in their order.
-#[tactic(auto, unfolding(crate::specs::StandingList::chosen_standings))]
+#[tactic(auto, unfolding(ss_base::specs::Standings::chosen_standings))]
 fn chosen_standings(
     alloc: Global,
     chosen: &[ManifestId],
@@ -41,7 +25,7 @@ fn chosen_standings(
     Ok(kept)
 }
 
-#[tactic(auto, unfolding(crate::specs::StandingList::standing_of))]
+#[tactic(auto, unfolding(ss_base::specs::Standings::standing_of))]
 fn standing_of(id: ManifestId, stood: &[Standing]) -> Option<Standing>
     ensures { result ≡ standing_of id stood.now }
 {
@@ -52,7 +36,7 @@ fn standing_of(id: ManifestId, stood: &[Standing]) -> Option<Standing>
 }
 
 // The others, as they stood.
-#[tactic(auto, unfolding(crate::specs::StandingList::others_standing))]
+#[tactic(auto, unfolding(ss_base::specs::Standings::others_standing))]
 fn others_standing(
     alloc: Global,
     chosen: &[ManifestId],
@@ -68,7 +52,7 @@ fn others_standing(
     Ok(others)
 }
 
-#[tactic(auto, unfolding(crate::specs::StandingList::promoted))]
+#[tactic(auto, unfolding(ss_base::specs::Standings::promoted))]
 fn promoted(
     alloc: Global,
     chosen: &[ManifestId],
@@ -82,7 +66,7 @@ fn promoted(
     Ok(standings)
 }
 
-#[tactic(auto, unfolding(crate::specs::StandingList::without_session))]
+#[tactic(auto, unfolding(ss_base::specs::Standings::without_session))]
 fn without_session(alloc: Global, session: u32, stood: &[Standing]) -> Result<Vec<Standing>, Memory>
     ensures { IfOk result (λ v. v.items ≡ without_session session stood.now) }
 {
@@ -94,7 +78,7 @@ fn without_session(alloc: Global, session: u32, stood: &[Standing]) -> Result<Ve
     Ok(others)
 }
 
-#[tactic(auto, unfolding(crate::specs::StandingList::in_front))]
+#[tactic(auto, unfolding(ss_base::specs::Standings::in_front))]
 fn in_front(
     alloc: Global,
     bound: usize,
@@ -156,8 +140,8 @@ fn standing_after(
     }
 }
 
-/// The manifests that stand at the hook after these entries, the most recently used first, at most `bound`. The
-/// entries are at most 2^32.
+/// The manifests that stand at the hook after these entries, the most recently used first; a Commit leaves the first
+/// `bound` of them. The entries are at most 2^32.
 pub fn standing(
     alloc: Global,
     entries: &[Entry],

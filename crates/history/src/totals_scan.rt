@@ -1,11 +1,9 @@
 // The totals of a history, by scanning its entries.
-ghost use Rattle.std.specs.Prelude.{◌≡◌, ◌<◌, ◌≤◌, ◌^◌, All, length, reverse, sum_by, count_by, IfOk};
-ghost use Rattle.history.specs.declared.entry.Entry.{Entry};
-ghost use Rattle.history.specs.Sessions.{sessions, is_retained};
-ghost use Rattle.history.specs.Need.{containers_closed};
-ghost use Rattle.history.specs.TotalsOf.{bytes_retained, bytes_stored, objects_named, stream_began, totals};
+ghost use Rattle.std.specs.Prelude.{◌≡◌, ◌<◌, ◌≤◌, ◌^◌, All, length, reverse, sum_by, count_by};
+ghost use Rattle.journal_entry.specs.declared.entry.Entry.{Entry};
+ghost use Rattle.history.specs.Sessions.{is_retained};
+ghost use Rattle.history.specs.TotalsOf.{bytes_retained, bytes_stored, containers_closed, objects_named, stream_began, totals};
 
-use crate::need_scan::containers_closed;
 use crate::session_scan::{is_retained, session_begun};
 use crate::{Entry, Point, Totals};
 use ss_base::Memory;
@@ -47,6 +45,17 @@ fn bytes_stored(point: &Point) -> u32
 {
     match point {
         Point::Commit { fresh_bytes, .. } => *fresh_bytes,
+        _ => 0,
+    }
+}
+
+#[tactic(auto, unfolding(crate::specs::TotalsOf::containers_closed))]
+fn containers_closed(point: &Point) -> u32
+    ensures { result ≡ containers_closed point.now }
+{
+    match point {
+        Point::Finish { containers, .. } => *containers,
+        Point::Abort { containers, .. } => *containers,
         _ => 0,
     }
 }

@@ -1,24 +1,25 @@
 -- What an allowed entry says of the entries before it.
-use Rattle.std.proofs.Common.{◌≡◌, ℕ, Bool, true, false, not, ◌&&◌, eqb, cond, List, ◌∷◌, Option, Some, None, refl, sym, ap, ◌∙◌, subst, inl, inr, eqb-true}
+use Rattle.std.proofs.Common.{◌≡◌, ℕ, Bool, true, false, not, ◌&&◌, eqb, leb, cond, List, ◌∷◌, Option, Some, None, refl, sym, ap, ◌∙◌, subst, inl, inr, eqb-true}
 use Rattle.std.specs.Option.{option_eq, option_map}
 use Rattle.std.specs.Cmp.Lexicographic.{pointwise}
 use Rattle.std.proofs.lemmas.Bool.{false≢true, and_parts, or_cases}
 use Rattle.ss_base.specs.declared.ids.ContainerId.{ContainerId}
 use Rattle.ss_base.specs.declared.ids.ManifestId.{ManifestId}
 use Rattle.ss_base.specs.declared.name.Name.{Name}
-use Rattle.ss_base.specs.Champions.{same_manifest}
-use Rattle.history.specs.declared.entry.Entry.{Entry}
-use Rattle.history.specs.declared.entry.Seen.{Seen}
+use Rattle.ss_base.specs.Ids.{same_manifest}
+use Rattle.journal_entry.specs.declared.entry.Entry.{Entry}
+use Rattle.journal_entry.specs.declared.entry.Seen.{Seen}
 use Rattle.history.specs.declared.rules.Rules.{Rules}
-use Rattle.history.specs.declared.entry.Point.{Point}
-use Rattle.history.specs.declared.entry.Point.TheVariants.{Begin, Choose, Commit, Finish, Abort, Delete, Look}
+use Rattle.journal_entry.specs.declared.entry.Point.{Point}
+use Rattle.journal_entry.specs.declared.entry.Point.TheVariants.{Begin, Choose, Commit, Finish, Abort, Delete, Look}
 use Rattle.history.specs.Sessions.{session_begun, session_count, sessions_under, reading_count, begins, finishes, aborts, closes, deletes, is_unfinished, is_retained, is_held, retained, is_begun_by, is_pending, commits_of}
-use Rattle.history.specs.Reading.{are_counts}
+use Rattle.history.specs.Bounds.{are_counts}
 use Rattle.history.specs.StandingList.{champions_for}
+use Rattle.history.specs.OwnEnd.{own_end}
 use Rattle.history.specs.Need.{commits_manifest}
-use Rattle.history.specs.Legal.{is_open_to, reply_to_begin, reply_to_look, same_seen, are_hooks, are_uses, is_above_own, are_texts, is_allowed, is_within, may_follow, is_legal}
+use Rattle.history.specs.Legal.{is_open_to, reply_to_begin, reply_to_look, same_seen, are_hooks, are_uses, are_texts, is_allowed, is_within, may_follow, is_legal}
 use Rattle.ss_base.proofs.MemberLaws.{In, find_in}
-use Rattle.history_laws.proofs.SameLaws.{same_manifest-true, pointwise-true}
+use Rattle.ss_base.proofs.IdLaws.{same_manifest-true, pointwise-true}
 
 -- an entry that may follow the entries of a legal history
 pub record IsStep (rules : Rules) (entry : Entry) (past : List Entry) : Type 0 where
@@ -46,13 +47,13 @@ same_unfinished author s t past same open_to = subst (λ n. is_unfinished n past
 pub finishes_open : (rules : Rules) (past : List Entry) (author s : ℕ) (point : Point) → is_allowed rules past author point ≡ true → finishes s point ≡ true → is_unfinished s past ≡ true
 unfolding is_allowed finishes
 finishes_open rules past author s (Finish t containers) allowed does =
-    same_unfinished author s t past does (and_parts (is_open_to author t past) (not (is_pending t past) && is_above_own t containers past) allowed).0
+    same_unfinished author s t past does (and_parts (is_open_to author t past) (not (is_pending t past) && leb (own_end t past) containers) allowed).0
 finishes_open rules past author s _ allowed does = absurd (false≢true does)
 
 pub aborts_open : (rules : Rules) (past : List Entry) (author s : ℕ) (point : Point) → is_allowed rules past author point ≡ true → aborts s point ≡ true → is_unfinished s past ≡ true
 unfolding is_allowed aborts
 aborts_open rules past author s (Abort t containers texts) allowed does =
-    same_unfinished author s t past does (and_parts (is_open_to author t past) (is_above_own t containers past && are_texts t texts past) allowed).0
+    same_unfinished author s t past does (and_parts (is_open_to author t past) (leb (own_end t past) containers && are_texts t texts past) allowed).0
 aborts_open rules past author s _ allowed does = absurd (false≢true does)
 
 pub closes_open : (rules : Rules) (past : List Entry) (author s : ℕ) (point : Point) → is_allowed rules past author point ≡ true → closes s point ≡ true → is_unfinished s past ≡ true
@@ -120,12 +121,12 @@ look_says rules past author name seen allowed = same_sight seen (reading_count p
 pub record IsChosen (rules : Rules) (s : ℕ) (hooks : List Name) (champions : List ManifestId) (past : List Entry) : Type 0 where
   pub unfinished : is_unfinished s past ≡ true
   pub valid : are_hooks rules.bits hooks ≡ true
-  pub greedy : champions ≡ champions_for rules.champions rules.standings hooks past
+  pub greedy : champions ≡ champions_for rules hooks past
 
 pub choose_says : (rules : Rules) (past : List Entry) (author s : ℕ) (hooks : List Name) (champions : List ManifestId) → is_allowed rules past author (Choose s hooks champions) ≡ true → IsChosen rules s hooks champions past
 unfolding is_allowed
 choose_says rules past author s hooks champions allowed =
-    let found = champions_for rules.champions rules.standings hooks past in
+    let found = champions_for rules hooks past in
     let first = and_parts (is_open_to author s past) (not (is_pending s past) && (are_hooks rules.bits hooks && pointwise same_manifest champions found)) allowed in
     let second = and_parts (not (is_pending s past)) (are_hooks rules.bits hooks && pointwise same_manifest champions found) first.1 in
     let third = and_parts (are_hooks rules.bits hooks) (pointwise same_manifest champions found) second.1 in

@@ -6,18 +6,20 @@ use Rattle.std.proofs.lemmas.Bool.{and_parts, leb-true}
 use Rattle.ss_base.specs.declared.ids.ContainerId.{ContainerId}
 use Rattle.ss_base.specs.declared.ids.Standing.{Standing}
 use Rattle.ss_base.specs.declared.name.Name.{Name}
+use Rattle.ss_base.specs.Ids.{are_distinct}
+use Rattle.ss_base.specs.Order.{are_ascending}
+use Rattle.ss_base.specs.Hook.{is_hook}
 use Rattle.ss_base.specs.Champions.{champions, uncovered}
-use Rattle.hook_sampler.specs.Hooks.{is_hook}
-use Rattle.history.specs.declared.entry.Entry.{Entry}
+use Rattle.journal_entry.specs.declared.entry.Entry.{Entry}
 use Rattle.history.specs.declared.rules.Rules.{Rules}
-use Rattle.history.specs.declared.entry.Point.{Point}
-use Rattle.history.specs.declared.entry.Point.TheVariants.{Choose, Commit, Reclaim}
+use Rattle.journal_entry.specs.declared.entry.Point.{Point}
+use Rattle.journal_entry.specs.declared.entry.Point.TheVariants.{Choose, Commit, Reclaim}
 use Rattle.history.specs.Bounds.{PointIsWithinBounds}
 use Rattle.history.specs.Sessions.{pending_champions}
 use Rattle.history.specs.StandingList.{standing, champions_for}
 use Rattle.history.specs.TotalsOf.{objects_named}
-use Rattle.history.specs.Legal.{is_distinct, are_hooks, is_ascending, is_use, are_uses, is_allowed}
-use Rattle.history.proofs.Entries.{AreCounts-from}
+use Rattle.history.specs.Legal.{are_hooks, is_use, are_uses, is_allowed}
+use Rattle.journal_entry.proofs.Entries.{AreCounts-from}
 use Rattle.history.proofs.LegalLaws.{few_objects}
 use Rattle.history_laws.proofs.Allowed.{choose_says, commit_says}
 use Rattle.history_laws.proofs.ChampionLaws.{round, no_rounds}
@@ -32,14 +34,14 @@ few_champions (suc n) lists = elim (round n lists) [
 few_hooks : (bits : ℕ) (hooks : List Name) → are_hooks bits hooks ≡ true → length hooks ≤ 4096
 unfolding are_hooks
 few_hooks bits hooks e =
-    let parts = and_parts (is_distinct hooks) (leb (length hooks) 4096 && list_all (is_hook bits) hooks) e in
+    let parts = and_parts (are_distinct hooks) (leb (length hooks) 4096 && list_all (is_hook bits) hooks) e in
     leb-true (length hooks) 4096 (and_parts (leb (length hooks) 4096) (list_all (is_hook bits) hooks) parts.1).0
 
 few_uses : (s : ℕ) (past : List Entry) (uses : List ContainerId) → are_uses s past uses ≡ true → length uses ≤ 4096
 unfolding are_uses
 few_uses s past uses e =
     let each = list_all (is_use s (pending_champions s past) past) uses in
-    let parts = and_parts (is_ascending uses) (leb (length uses) 4096 && each) e in
+    let parts = and_parts (are_ascending uses) (leb (length uses) 4096 && each) e in
     leb-true (length uses) 4096 (and_parts (leb (length uses) 4096) each parts.1).0
 
 pub allowed_bounds : (rules : Rules) (past : List Entry) (author : ℕ) (point : Point) → rules.champions ≤ 255 → is_allowed rules past author point ≡ true → PointIsWithinBounds point

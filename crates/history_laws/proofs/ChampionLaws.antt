@@ -3,10 +3,11 @@ use Rattle.std.proofs.Common.{◌≡◌, ◌⊎◌, ℕ, zero, suc, true, false,
 use Rattle.std.proofs.lemmas.Bool.{both_ways, not-true, false_from_ne_true}
 use Rattle.ss_base.specs.declared.ids.ManifestId.{ManifestId}
 use Rattle.ss_base.specs.declared.ids.Standing.{Standing}
-use Rattle.ss_base.specs.Champions.{same_manifest, stands_in, candidates, is_unbeaten, best, uncovered, champions}
+use Rattle.ss_base.specs.Ids.{same_manifest}
+use Rattle.ss_base.specs.Champions.{stands_in, candidates, is_unbeaten, best, uncovered, champions}
 use Rattle.ss_base.proofs.MemberLaws.{In, in_any, find_in, filter_in, flat_map_in}
 use Rattle.ss_base.proofs.ApartLaws.{Apart}
-use Rattle.history_laws.proofs.SameLaws.{same_itself, same_manifest-true}
+use Rattle.ss_base.proofs.IdLaws.{same_manifest-self, same_manifest-true}
 
 -- the manifest stands in one of the lists
 pub record StandsAtOne (id : ManifestId) (lists : List (List Standing)) : Type 0 where
@@ -19,7 +20,7 @@ unfolding best candidates stands_in
 best_stands lists s e =
     let found = find_in (λ a. is_unbeaten lists (candidates lists) a) (candidates lists) s e in
     let at = flat_map_in (λ stood. stood) s lists found.0 in
-    record { stood = at.0; listed = at.1; stands = in_any (λ (t : Standing). same_manifest s.id t.id) s at.0 at.2 (same_itself s.id) }
+    record { stood = at.0; listed = at.1; stands = in_any (λ (t : Standing). same_manifest s.id t.id) s at.0 at.2 (same_manifest-self s.id) }
 
 -- what a round leaves are lists, in which its champion does not stand
 uncovered_in : (id : ManifestId) (stood : List Standing) (lists : List (List Standing)) → In stood (uncovered id lists) → In stood lists × (stands_in id stood ≡ false)

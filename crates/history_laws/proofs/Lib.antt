@@ -1,4 +1,3 @@
-pub mod SameLaws
 pub mod Allowed
 pub mod SessionLaws
 pub mod NameLaws

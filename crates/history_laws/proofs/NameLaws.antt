@@ -4,10 +4,10 @@ use Rattle.std.specs.List.{list_any, count_by}
 use Rattle.std.specs.Str.{bytes_eq}
 use Rattle.std.specs.Cmp.Lexicographic.{bytes_decides}
 use Rattle.std.proofs.lemmas.Bool.{both_ways, or_cases, or_left, or_right, false_from_ne_true, cases_Bool, eq-eqb}
-use Rattle.history.specs.declared.entry.Entry.{Entry}
+use Rattle.journal_entry.specs.declared.entry.Entry.{Entry}
 use Rattle.history.specs.declared.rules.Rules.{Rules}
-use Rattle.history.specs.declared.entry.Point.{Point}
-use Rattle.history.specs.declared.entry.Point.TheVariants.{Begin}
+use Rattle.journal_entry.specs.declared.entry.Point.{Point}
+use Rattle.journal_entry.specs.declared.entry.Point.TheVariants.{Begin}
 use Rattle.history.specs.Sessions.{is_number, session_begun, session_count, session_under, sessions_under, begins, finishes, closes, deletes, has, is_unfinished, is_retained, is_held, retained}
 use Rattle.history.specs.Legal.{is_legal, is_allowed}
 use Rattle.ss_base.proofs.MemberLaws.{In, none_in, none_from, filter_map_in, count_one, count_other, count_at_most, count_none, find_only}

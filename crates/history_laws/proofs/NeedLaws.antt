@@ -8,21 +8,23 @@ use Rattle.ss_base.specs.declared.ids.ContainerId.{ContainerId}
 use Rattle.ss_base.specs.declared.ids.ManifestId.{ManifestId}
 use Rattle.ss_base.specs.declared.ids.Standing.{Standing}
 use Rattle.ss_base.specs.declared.name.Name.{Name}
-use Rattle.ss_base.specs.Champions.{same_manifest, stands_in}
-use Rattle.history.specs.declared.entry.Entry.{Entry}
-use Rattle.history.specs.declared.entry.Seen.{Seen}
+use Rattle.ss_base.specs.Ids.{same_manifest, has_manifest, same_container, has_container}
+use Rattle.ss_base.specs.Order.{are_ascending}
+use Rattle.ss_base.specs.Champions.{stands_in}
+use Rattle.journal_entry.specs.declared.entry.Entry.{Entry}
+use Rattle.journal_entry.specs.declared.entry.Seen.{Seen}
 use Rattle.history.specs.declared.rules.Rules.{Rules}
-use Rattle.history.specs.declared.entry.Point.{Point}
-use Rattle.history.specs.declared.entry.Point.TheVariants.{Choose, Commit, Look}
+use Rattle.journal_entry.specs.declared.entry.Point.{Point}
+use Rattle.journal_entry.specs.declared.entry.Point.TheVariants.{Choose, Commit, Look}
 use Rattle.history.specs.Sessions.{is_number, session_begun, sessions, begins, chooses, commits, finishes, aborts, closes, deletes, settles, has, newest, is_unfinished, is_closed, is_retained, champions_chosen, pending, pending_champions, reading_begun, readings, looks, ends, is_reading}
-use Rattle.history.specs.StandingList.{has_manifest, standing, champions_for}
-use Rattle.history.specs.Need.{same_container, has_container, is_champion, is_being_read, is_pinned, commits_manifest, is_live, uses_live, is_needed}
-use Rattle.history.specs.Legal.{is_legal, is_allowed, lists_use, is_use, is_use_of_any, is_ascending, are_uses}
+use Rattle.history.specs.StandingList.{standing, champions_for}
+use Rattle.history.specs.Need.{is_champion, is_being_read, is_pinned, commits_manifest, is_live, uses_live, is_needed}
+use Rattle.history.specs.Legal.{is_legal, is_allowed, lists_use, is_use, is_use_of_any, are_uses}
 use Rattle.ss_base.proofs.MemberLaws.{In, any_in, in_any, all_in, filter_map_in, in_filter_map, map_in}
 use Rattle.history_laws.proofs.Allowed.{IsStep, step, finishes_open, look_says, retained_is, choose_says, commit_says, commits_next}
 use Rattle.history_laws.proofs.SessionLaws.{has_cases, has_parts, has_older, has_from, unfinished_is, unfinished_from, closed_not_unfinished, closed_cases, retained_parts, retained_from, committed_begun}
 use Rattle.history_laws.proofs.ChampionLaws.{champion_stands}
-use Rattle.history_laws.proofs.SameLaws.{same_itself, same_manifest-true, same_container-true}
+use Rattle.ss_base.proofs.IdLaws.{same_manifest-self, same_manifest-true, same_container-true}
 use Rattle.history_laws.proofs.StandingLaws.{what_stands}
 
 -- ---- champions of pending choices
@@ -43,16 +45,16 @@ listed_manifest id ids h =
 
 manifest_listed : (id : ManifestId) (ids : List ManifestId) → In id ids → has_manifest id ids ≡ true
 unfolding has_manifest
-manifest_listed id ids h = in_any (same_manifest id) id ids h (same_itself id)
+manifest_listed id ids h = in_any (same_manifest id) id ids h (same_manifest-self id)
 
-champion_somewhere : (rounds bound : ℕ) (hooks : List Name) (past : List Entry) (id : ManifestId) → In id (champions_for rounds bound hooks past) → StandsSomewhere id past
+champion_somewhere : (rules : Rules) (hooks : List Name) (past : List Entry) (id : ManifestId) → In id (champions_for rules hooks past) → StandsSomewhere id past
 unfolding champions_for stands_in
-champion_somewhere rounds bound hooks past id h =
-    let at = champion_stands rounds (map (λ hook. standing bound hook past) hooks) id h in
-    let hook = map_in (λ hook. standing bound hook past) at.stood hooks at.listed in
+champion_somewhere rules hooks past id h =
+    let at = champion_stands rules.champions (map (λ hook. standing rules.standings hook past) hooks) id h in
+    let hook = map_in (λ hook. standing rules.standings hook past) at.stood hooks at.listed in
     let stands = any_in (λ (s : Standing). same_manifest id s.id) at.stood at.stands in
     record {
-      bound = bound;
+      bound = rules.standings;
       hook = hook.0;
       stands = stands.0;
       listed = subst (λ (l : List Standing). In stands.0 l) (sym hook.2) stands.1;
@@ -64,7 +66,7 @@ chosen_somewhere : (rules : Rules) (past : List Entry) (author : ℕ) (id : Mani
 unfolding champions_chosen has_manifest
 chosen_somewhere rules past author id (Choose s hooks champions) allowed h =
     let said = choose_says rules past author s hooks champions allowed in
-    champion_somewhere rules.champions rules.standings hooks past id (subst (λ (ids : List ManifestId). In id ids) said.greedy (listed_manifest id champions h))
+    champion_somewhere rules hooks past id (subst (λ (ids : List ManifestId). In id ids) said.greedy (listed_manifest id champions h))
 chosen_somewhere rules past author id _ allowed h = absurd (false≢true h)
 
 -- the pending choice after one more entry
@@ -272,8 +274,8 @@ live_use id past (Commit manifest content text chunks bytes fresh fresh_bytes us
     let parts = and_parts (has_container id uses) (is_live manifest past) e in
     record {
       manifest = manifest;
-      commits = same_itself manifest;
-      uses = and_from (same_manifest manifest manifest) (has_container id uses) (same_itself manifest) parts.0;
+      commits = same_manifest-self manifest;
+      uses = and_from (same_manifest manifest manifest) (has_container id uses) (same_manifest-self manifest) parts.0;
       live = parts.1;
     }
 live_use id past _ e = absurd (false≢true e)
@@ -306,7 +308,7 @@ champion_use rules t id past legal used =
 use_cases : (rules : Rules) (s : ℕ) (id : ContainerId) (uses : List ContainerId) (past : List Entry) → is_legal rules past ≡ true → are_uses s past uses ≡ true → has_container id uses ≡ true → (id.session ≡ s) ⊎ (is_needed id past ≡ true)
 unfolding are_uses has_container is_use
 use_cases rules s id uses past legal may used =
-    let all = (and_parts (leb (length uses) 4096) (list_all (is_use s (pending_champions s past) past) uses) (and_parts (is_ascending uses) (leb (length uses) 4096 && list_all (is_use s (pending_champions s past) past) uses) may).1).1 in
+    let all = (and_parts (leb (length uses) 4096) (list_all (is_use s (pending_champions s past) past) uses) (and_parts (are_ascending uses) (leb (length uses) 4096 && list_all (is_use s (pending_champions s past) past) uses) may).1).1 in
     let found = any_in (same_container id) uses used in
     let here = all_in (is_use s (pending_champions s past) past) found.0 uses found.1 all in
     let same : id ≡ found.0 = same_container-true id found.0 found.2 in

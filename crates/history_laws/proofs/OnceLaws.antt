@@ -5,13 +5,14 @@ use Rattle.std.proofs.lemmas.Bool.{false≢true, both_ways, false_from_ne_true, 
 use Rattle.ss_base.specs.declared.ids.ManifestId.{ManifestId}
 use Rattle.ss_base.specs.declared.ids.Standing.{Standing}
 use Rattle.ss_base.specs.declared.name.Name.{Name}
-use Rattle.ss_base.specs.Champions.{same_manifest}
-use Rattle.history.specs.declared.entry.Entry.{Entry}
+use Rattle.ss_base.specs.Ids.{same_manifest, has_name, has_manifest}
+use Rattle.ss_base.specs.Standings.{standing_of, chosen_standings, others_standing, promoted, without_session, in_front}
+use Rattle.journal_entry.specs.declared.entry.Entry.{Entry}
 use Rattle.history.specs.declared.rules.Rules.{Rules}
-use Rattle.history.specs.declared.entry.Point.{Point}
-use Rattle.history.specs.declared.entry.Point.TheVariants.{Choose, Commit, Abort, Delete}
+use Rattle.journal_entry.specs.declared.entry.Point.{Point}
+use Rattle.journal_entry.specs.declared.entry.Point.TheVariants.{Choose, Commit, Abort, Delete}
 use Rattle.history.specs.Sessions.{has, commits_of, last_hooks}
-use Rattle.history.specs.StandingList.{has_name, has_manifest, standing_of, chosen_standings, others_standing, promoted, without_session, in_front, standing_after, standing, champions_for}
+use Rattle.history.specs.StandingList.{standing_after, standing, champions_for}
 use Rattle.history.specs.Need.{commits_manifest}
 use Rattle.history.specs.Legal.{is_legal, is_allowed}
 use Rattle.history_laws.specs.Stands.{MayStand}
@@ -20,7 +21,7 @@ use Rattle.ss_base.proofs.GetLaws.{reverse_cases}
 use Rattle.history_laws.proofs.Allowed.{IsStep, step, commit_says, commits_next, choose_says}
 use Rattle.history_laws.proofs.SessionLaws.{committed_below}
 use Rattle.history_laws.proofs.ChampionLaws.{champions_apart}
-use Rattle.history_laws.proofs.SameLaws.{same_itself, same_manifest-true}
+use Rattle.ss_base.proofs.IdLaws.{same_manifest-self, same_manifest-true}
 use Rattle.ss_base.proofs.ApartLaws.{Apart, apart_filter, apart_take, apart_append, apart_by}
 use Rattle.history_laws.proofs.StandingLaws.{IsCommitOf, made, newest, standing_commit, stands_committed, commit_committed, chosen_in, others_in, standing_of_in, what_stands}
 
@@ -50,7 +51,7 @@ apart_promoted chosen stood distinct apart =
     (λ x y first second. false_from_ne_true (same_manifest x.id y.id) (λ same.
     let is : x.id ≡ y.id = same_manifest-true x.id y.id same in
     let listed = subst (λ (m : ManifestId). In m chosen) is (chosen_in x chosen stood first).1 in
-    both_ways (has_manifest y.id chosen) (others_in y chosen stood second).1 (in_any (same_manifest y.id) y.id chosen listed (same_itself y.id))))
+    both_ways (has_manifest y.id chosen) (others_in y chosen stood second).1 (in_any (same_manifest y.id) y.id chosen listed (same_manifest-self y.id))))
 
 apart_front : (rules : Rules) (bound : ℕ) (id : ManifestId) (past : List Entry) (stood : List Standing) → is_legal rules past ≡ true → id.seq ≡ commits_of id.session past → ((x : Standing) → In x stood → MayStand x past) → Apart same_standing stood → Apart same_standing (in_front bound (newest id past) stood)
 unfolding in_front
@@ -145,4 +146,4 @@ same_stamps rules past a b legal first second =
     (λ level.
     let is : a.stamp ≡ b.stamp = eqb-true a.stamp b.stamp level in
     let one : a.id ≡ b.id = same_commit a.id b.id b.stamp past (subst (λ k. IsCommitOf a.id k past) is ca) cb in
-    subst (λ (m : ManifestId). same_manifest a.id m ≡ true) one (same_itself a.id))
+    subst (λ (m : ManifestId). same_manifest a.id m ≡ true) one (same_manifest-self a.id))

@@ -6,13 +6,14 @@ use Rattle.ss_base.specs.declared.ids.ContainerId.{ContainerId}
 use Rattle.ss_base.specs.declared.ids.ManifestId.{ManifestId}
 use Rattle.ss_base.specs.declared.ids.Standing.{Standing}
 use Rattle.ss_base.specs.declared.name.Name.{Name}
-use Rattle.ss_base.specs.Champions.{same_manifest}
-use Rattle.history.specs.declared.entry.Entry.{Entry}
+use Rattle.ss_base.specs.Ids.{same_manifest, has_name, has_manifest}
+use Rattle.ss_base.specs.Standings.{standing_of, chosen_standings, others_standing, promoted, without_session, in_front}
+use Rattle.journal_entry.specs.declared.entry.Entry.{Entry}
 use Rattle.history.specs.declared.rules.Rules.{Rules}
-use Rattle.history.specs.declared.entry.Point.{Point}
-use Rattle.history.specs.declared.entry.Point.TheVariants.{Choose, Commit, Abort, Delete}
+use Rattle.journal_entry.specs.declared.entry.Point.{Point}
+use Rattle.journal_entry.specs.declared.entry.Point.TheVariants.{Choose, Commit, Abort, Delete}
 use Rattle.history.specs.Sessions.{has, aborts, deletes, last_hooks}
-use Rattle.history.specs.StandingList.{has_name, has_manifest, standing_of, chosen_standings, others_standing, promoted, without_session, in_front, standing_after, standing}
+use Rattle.history.specs.StandingList.{standing_after, standing}
 use Rattle.history.specs.Need.{commits_manifest}
 use Rattle.history.specs.Legal.{is_legal}
 use Rattle.history_laws.specs.Stands.{MayStand}
@@ -20,7 +21,7 @@ use Rattle.ss_base.proofs.MemberLaws.{In, find_in, filter_in, filter_map_in, app
 use Rattle.ss_base.proofs.GetLaws.{get_in, reverse_kept, reverse_last}
 use Rattle.history_laws.proofs.Allowed.{IsStep, step, commit_says}
 use Rattle.history_laws.proofs.SessionLaws.{has_from, has_not, unfinished_unaborted, unfinished_undeleted}
-use Rattle.history_laws.proofs.SameLaws.{same_itself, same_manifest-true}
+use Rattle.ss_base.proofs.IdLaws.{same_manifest-self, same_manifest-true}
 
 -- ---- the entry that commits what stands
 
@@ -108,7 +109,7 @@ newest_stands rules author id content text chunks bytes fresh fresh_bytes uses p
     let said = commit_says rules past author id content text chunks bytes fresh fresh_bytes uses now.allowed in
     let entry : Entry = made author (Commit id content text chunks bytes fresh fresh_bytes uses) in
     record {
-      committed = to_some id (length past) (entry ∷ past) (record { entry = entry; there = reverse_last entry past; commits = same_itself id });
+      committed = to_some id (length past) (entry ∷ past) (record { entry = entry; there = reverse_last entry past; commits = same_manifest-self id });
       unaborted = has_not (aborts id.session) entry past refl (unfinished_unaborted id.session past said.unfinished);
       undeleted = has_not (deletes id.session) entry past refl (unfinished_undeleted rules id.session past now.legal said.unfinished);
     }

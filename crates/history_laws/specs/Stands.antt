@@ -2,7 +2,7 @@
 use Rattle.std.specs.Prelude.{◌≡◌, true, false, List, reverse, slice_get}
 use Rattle.std.specs.Option.{IsSomeAnd}
 use Rattle.ss_base.specs.declared.ids.Standing.{Standing}
-use Rattle.history.specs.declared.entry.Entry.{Entry}
+use Rattle.journal_entry.specs.declared.entry.Entry.{Entry}
 use Rattle.history.specs.Sessions.{has, aborts, deletes}
 use Rattle.history.specs.Need.{commits_manifest}
 

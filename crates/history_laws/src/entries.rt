@@ -1,6 +1,6 @@
 // The entries of a legal history.
 ghost use Rattle.std.specs.Prelude.{◌≡◌, ◌≤◌, ◌∷◌, ◌++◌, List, true};
-ghost use Rattle.history.specs.declared.entry.Entry.{Entry};
+ghost use Rattle.journal_entry.specs.declared.entry.Entry.{Entry};
 ghost use Rattle.history.specs.declared.rules.Rules.{Rules};
 ghost use Rattle.history.specs.Bounds.{IsWithinBounds};
 ghost use Rattle.history.specs.Legal.{is_legal};

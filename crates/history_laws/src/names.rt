@@ -1,6 +1,6 @@
 // Streams and their names.
 ghost use Rattle.std.specs.Prelude.{◌≡◌, ◌≤◌, ℕ, List, true, Some, Contains, count_by};
-ghost use Rattle.history.specs.declared.entry.Entry.{Entry};
+ghost use Rattle.journal_entry.specs.declared.entry.Entry.{Entry};
 ghost use Rattle.history.specs.declared.rules.Rules.{Rules};
 ghost use Rattle.history.specs.Sessions.{sessions_under, is_retained, retained};
 ghost use Rattle.history.specs.Legal.{is_legal};

@@ -4,10 +4,11 @@ ghost use Rattle.std.specs.List.{IsDistinct};
 ghost use Rattle.ss_base.specs.declared.ids.ContainerId.{ContainerId};
 ghost use Rattle.ss_base.specs.declared.ids.ManifestId.{ManifestId};
 ghost use Rattle.ss_base.specs.declared.object.Object.{Object};
-ghost use Rattle.history.specs.declared.entry.Entry.{Entry};
+ghost use Rattle.ss_base.specs.Ids.{same_object};
+ghost use Rattle.journal_entry.specs.declared.entry.Entry.{Entry};
 ghost use Rattle.history.specs.declared.rules.Rules.{Rules};
 ghost use Rattle.history.specs.Sessions.{is_closed, has};
-ghost use Rattle.history.specs.Need.{same_object, is_live, is_needed, is_wanted, erasable, reclaims};
+ghost use Rattle.history.specs.Need.{is_live, is_needed, is_wanted, erasable, reclaims};
 ghost use Rattle.history.specs.Legal.{is_legal};
 
 /// A manifest of a closed session that is not live never becomes live again.

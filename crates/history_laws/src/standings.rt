@@ -3,8 +3,8 @@ ghost use Rattle.std.specs.Prelude.{◌≡◌, ◌==◌, ℕ, List, true, map, A
 ghost use Rattle.std.specs.List.{IsDistinct};
 ghost use Rattle.ss_base.specs.declared.ids.Standing.{Standing};
 ghost use Rattle.ss_base.specs.declared.name.Name.{Name};
-ghost use Rattle.ss_base.specs.Champions.{same_manifest};
-ghost use Rattle.history.specs.declared.entry.Entry.{Entry};
+ghost use Rattle.ss_base.specs.Ids.{same_manifest};
+ghost use Rattle.journal_entry.specs.declared.entry.Entry.{Entry};
 ghost use Rattle.history.specs.declared.rules.Rules.{Rules};
 ghost use Rattle.history.specs.StandingList.{standing};
 ghost use Rattle.history.specs.Legal.{is_legal};

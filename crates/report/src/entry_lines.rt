@@ -3,7 +3,7 @@ ghost use Rattle.std.specs.Prelude.{◌≡◌, IfOk, string_bytes};
 ghost use Rattle.report.specs.EntryLine.{entry_line};
 
 use crate::points::push_point;
-use history::Entry;
+use journal_entry::Entry;
 use ss_base::Memory;
 use std::alloc::Global;
 

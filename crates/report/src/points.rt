@@ -1,11 +1,11 @@
 // What is printed of a point, by a function for each kind.
 ghost use Rattle.std.specs.Prelude.{◌≡◌, ◌++◌, OnOk, string_bytes};
-ghost use Rattle.history.specs.declared.entry.Point.TheVariants.{Begin, Choose, Finish, Abort, Delete, Look, Done, Reclaim, Stat};
+ghost use Rattle.journal_entry.specs.declared.entry.Point.TheVariants.{Begin, Choose, Finish, Abort, Delete, Look, Done, Reclaim, Stat};
 ghost use Rattle.report.specs.EntryLine.{fresh_words, commit_words, point_words};
 
 use crate::names::name_text;
 use crate::words::{push_count, push_list, push_manifest};
-use history::{Items, Point, Seen, Totals};
+use journal_entry::{Items, Point, Seen, Totals};
 use ss_base::{ContainerId, ManifestId, Name, Object, StreamName};
 use std::alloc::AllocError;
 

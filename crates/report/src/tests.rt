@@ -1,6 +1,6 @@
 // Lines of entries, with expected values by hand.
 use crate::entry_line;
-use history::{Entry, Items, Point, Seen, Totals};
+use journal_entry::{Entry, Items, Point, Seen, Totals};
 use ss_base::{ContainerId, ManifestId, Name, Object, StreamName};
 use std::alloc::Global;
 use std::test::Fail;

@@ -1,5 +1,5 @@
 use Rattle.std.proofs.Common.{◌≡◌, ◌+◌, true, false, ◌∷◌, take, reverse, refl, sym, ap, ◌∙◌, ◌<◌, ◌≤◌, subst, arith}
-use Rattle.history.specs.declared.entry.Entry.{Entry}
+use Rattle.journal_entry.specs.declared.entry.Entry.{Entry}
 use Rattle.history.specs.Legal.{is_legal, is_allowed, is_within}
 use Rattle.history.specs.TotalsOf.{objects_named}
 use Rattle.std.proofs.lemmas.List.{length-take, get_or-take}

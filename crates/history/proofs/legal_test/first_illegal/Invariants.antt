@@ -1,5 +1,5 @@
 use Rattle.std.proofs.Common.{◌≡◌, ◌<◌, ◌≤◌, ℕ, true, take, get_or, reverse}
-use Rattle.history.specs.declared.entry.Entry.{Entry}
+use Rattle.journal_entry.specs.declared.entry.Entry.{Entry}
 use Rattle.history.specs.Legal.{is_legal}
 use Rattle.history.specs.TotalsOf.{objects_named}
 use Rattle.history.proofs.legal_test.first_illegal.Given as goal

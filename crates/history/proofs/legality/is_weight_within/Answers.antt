@@ -3,8 +3,8 @@ use Rattle.std.specs.List.{sum_by}
 use Rattle.std.proofs.lemmas.Bool.{le-leb, lt-leb}
 use Rattle.std.proofs.lemmas.List.{take_all}
 use Rattle.std.proofs.lemmas.List.Sums.{sum_by_more_le}
-use Rattle.history.specs.declared.entry.Entry.{Entry}
-use Rattle.history.specs.Legal.{point_weight, weight}
+use Rattle.journal_entry.specs.declared.entry.Entry.{Entry}
+use Rattle.journal_entry.specs.Weight.{point_weight, weight}
 use Rattle.history.proofs.Scans.{sum_by-reverse}
 use Rattle.history.proofs.legality.is_weight_within.Goals as goal
 

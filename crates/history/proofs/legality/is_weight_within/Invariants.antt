@@ -1,7 +1,7 @@
 use Rattle.std.proofs.Common.{◌≡◌, ◌+◌, take}
 use Rattle.std.specs.List.{sum_by}
-use Rattle.history.specs.declared.entry.Entry.{Entry}
-use Rattle.history.specs.Legal.{point_weight}
+use Rattle.journal_entry.specs.declared.entry.Entry.{Entry}
+use Rattle.journal_entry.specs.Weight.{point_weight}
 use Rattle.history.proofs.legality.is_weight_within.Given as goal
 
 abbrev pub invariant-loop-entry : goal.invariant-loop-entry

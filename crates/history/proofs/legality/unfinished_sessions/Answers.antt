@@ -1,7 +1,7 @@
 use Rattle.std.proofs.Common.{reverse, sym, ap, ◌∙◌}
 use Rattle.std.specs.List.{count_by}
 use Rattle.std.proofs.lemmas.List.{take_all}
-use Rattle.history.specs.declared.entry.Entry.{Entry}
+use Rattle.journal_entry.specs.declared.entry.Entry.{Entry}
 use Rattle.history.specs.Legal.{begins_unfinished, unfinished_sessions}
 use Rattle.history.proofs.Scans.{count_by-reverse}
 use Rattle.history.proofs.legality.unfinished_sessions.Goals as goal

@@ -1,5 +1,5 @@
 use Rattle.std.proofs.Common.{◌≡◌, ◌+◌, ◌∷◌, take, reverse, sym, ap, ◌∙◌}
-use Rattle.history.specs.declared.entry.Entry.{Entry}
+use Rattle.journal_entry.specs.declared.entry.Entry.{Entry}
 use Rattle.history.specs.StandingList.{standing, standing_after}
 use Rattle.history.proofs.Scans.{reverse_more}
 use Rattle.history.proofs.standing_scan.standing.Goals as goal

@@ -1,8 +1,8 @@
 use Rattle.std.proofs.Common.{sym, ap, ◌∙◌}
 use Rattle.std.specs.List.{sum_by}
 use Rattle.std.proofs.lemmas.List.{take_all}
-use Rattle.history.specs.declared.entry.Entry.{Entry}
-use Rattle.history.specs.Need.{containers_closed}
+use Rattle.journal_entry.specs.declared.entry.Entry.{Entry}
+use Rattle.history.specs.TotalsOf.{containers_closed}
 use Rattle.history.proofs.Scans.{sum_by-reverse}
 use Rattle.history.proofs.totals_scan.containers.Goals as goal
 

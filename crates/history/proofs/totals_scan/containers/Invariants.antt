@@ -1,7 +1,7 @@
 use Rattle.std.proofs.Common.{◌≡◌, ◌≤◌, ◌*◌, ◌^◌, take}
 use Rattle.std.specs.List.{sum_by}
-use Rattle.history.specs.declared.entry.Entry.{Entry}
-use Rattle.history.specs.Need.{containers_closed}
+use Rattle.journal_entry.specs.declared.entry.Entry.{Entry}
+use Rattle.history.specs.TotalsOf.{containers_closed}
 use Rattle.history.proofs.totals_scan.containers.Given as goal
 
 abbrev pub invariant-loop-entry : goal.invariant-loop-entry

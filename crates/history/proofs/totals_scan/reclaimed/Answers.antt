@@ -1,7 +1,7 @@
 use Rattle.std.proofs.Common.{sym, ap, ◌∙◌}
 use Rattle.std.specs.List.{sum_by}
 use Rattle.std.proofs.lemmas.List.{take_all}
-use Rattle.history.specs.declared.entry.Entry.{Entry}
+use Rattle.journal_entry.specs.declared.entry.Entry.{Entry}
 use Rattle.history.specs.TotalsOf.{objects_named}
 use Rattle.history.proofs.Scans.{sum_by-reverse}
 use Rattle.history.proofs.totals_scan.reclaimed.Goals as goal

@@ -1,6 +1,6 @@
 use Rattle.std.proofs.Common.{◌≡◌, ◌≤◌, ◌*◌, take}
 use Rattle.std.specs.List.{sum_by}
-use Rattle.history.specs.declared.entry.Entry.{Entry}
+use Rattle.journal_entry.specs.declared.entry.Entry.{Entry}
 use Rattle.history.specs.TotalsOf.{objects_named}
 use Rattle.history.proofs.totals_scan.reclaimed.Given as goal
 

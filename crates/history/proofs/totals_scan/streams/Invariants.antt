@@ -1,6 +1,6 @@
 use Rattle.std.proofs.Common.{◌≡◌, take, reverse}
 use Rattle.std.specs.List.{count_by}
-use Rattle.history.specs.declared.entry.Entry.{Entry}
+use Rattle.journal_entry.specs.declared.entry.Entry.{Entry}
 use Rattle.history.specs.TotalsOf.{stream_began}
 use Rattle.history.proofs.totals_scan.streams.Given as goal
 

@@ -1,4 +1,5 @@
-use Rattle.history.specs.Need.{same_object, erasable}
+use Rattle.ss_base.specs.Ids.{same_object}
+use Rattle.history.specs.Need.{erasable}
 use Rattle.ss_base.proofs.ApartLaws.{IsDistinct-from_apart}
 use Rattle.history_laws.proofs.ObjectLaws.{erasable_apart, reclaimed_before}
 use Rattle.history_laws.proofs.needs.reclaimed_once.Goals as goal

@@ -3,7 +3,7 @@ use Rattle.history_laws.specs.Stands.{MayStand}
 use Rattle.ss_base.proofs.MemberLaws.{All-from_in, in_Contains}
 use mathlib.Core.List.{map}
 use Rattle.ss_base.specs.declared.ids.Standing.{Standing}
-use Rattle.ss_base.specs.Champions.{same_manifest}
+use Rattle.ss_base.specs.Ids.{same_manifest}
 use Rattle.ss_base.proofs.ApartLaws.{apart_map, IsDistinct-from_apart}
 use Rattle.history_laws.proofs.StandingLaws.{what_stands}
 use Rattle.history_laws.proofs.OnceLaws.{same_standing, stands_once, same_stamps}

@@ -1,0 +1,8 @@
+use Rattle.std.proofs.Common.{◌≡◌, ◌≤◌, take}
+use Rattle.std.specs.List.{count_by}
+use Rattle.journal_entry.specs.declared.entry.Entry.{Entry}
+use Rattle.history.specs.Sessions.{looks_some}
+use Rattle.history.proofs.reading_scan.reading_count.Given as goal
+
+abbrev pub invariant-loop-entry : goal.invariant-loop-entry
+invariant-loop-entry l = (l.count ≤ l.entry-index) × (l.count ≡ count_by (λ (entry : Entry). looks_some entry.point) (take l.entry-index l.entries))

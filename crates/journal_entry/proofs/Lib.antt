@@ -1,0 +1,5 @@
+mod Names
+mod Loop
+mod Fields
+pub mod Entries
+pub mod WeightLaws

@@ -1,0 +1,8 @@
+use Rattle.std.proofs.Common.{◌≡◌, ◌++◌, take}
+use Rattle.std.specs.List.{flat_map, AllByRecursion}
+use Rattle.journal_entry.proofs.writing.put_items.Given as goal
+
+abbrev pub invariant-loop-item : goal.invariant-loop-item
+invariant-loop-item g l =
+    (l.out.items ≡ l.initial.out.items ++ flat_map g.T.Item.item_text (take l.item-index l.items))
+    × AllByRecursion g.T.Item.fits (take l.item-index l.items)

@@ -1,0 +1,4 @@
+pub mod EntryText
+pub mod Bounds
+pub mod Reading
+pub mod Weight
