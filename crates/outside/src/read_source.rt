@@ -1,5 +1,5 @@
 // A source over a reader of std.
-ghost use Rattle.std.specs.Prelude.{◌≡◌, ℕ, List, [], true, Some, IsTrue};
+ghost use Rattle.std.specs.Prelude.{◌≡◌, ℕ, List, [], true, Some};
 
 use crate::{Source, Trouble};
 use std::alloc::Global;
@@ -32,7 +32,7 @@ impl<R: Read> ReadSource<R> {
 impl<R: Read> Source for ReadSource<R> {
     ghost left = { λ s. R.remaining s.reader };
 
-    ghost ended = { λ s. IsTrue s.has_ended };
+    ghost ended = { λ s. s.has_ended };
 
     ghost faults = { λ s. s.faults };
 

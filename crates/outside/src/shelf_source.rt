@@ -52,8 +52,8 @@ impl<F: Shelf> Source for ShelfSource<'_, F> {
         ensures bytes { MatchResult result
             (λ bytes. Consumes (source_left F.held self.old) (source_left F.held self.new) bytes.items)
             (λ _. Keeps (source_left F.held self.old) (source_left F.held self.new)) }
-        ensures end { IfOk result (λ bytes. bytes.items ≡ [] → source_ended self.new × IsAtEnd (source_left F.held self.new)) }
-        ensures stays { source_ended self.old → source_ended self.new × IfOk result (λ bytes. bytes.items ≡ []) }
+        ensures end { IfOk result (λ bytes. bytes.items ≡ [] → IsTrue (source_ended self.new) × IsAtEnd (source_left F.held self.new)) }
+        ensures stays { IsTrue (source_ended self.old) → IsTrue (source_ended self.new) × IfOk result (λ bytes. bytes.items ≡ []) }
         ensures cause { HasCause (F.faults (files_of self.old).now) (F.faults (files_of self.new).now) result }
 
         // The same shelf, on which nothing but reads was done.
