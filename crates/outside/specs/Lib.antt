@@ -8,4 +8,6 @@ pub mod Views
 pub mod ObjectMap
 pub mod MemShelf
 pub mod ShelfSource
+pub mod ReadSource
+pub mod WriteSink
 pub mod DirShelf
