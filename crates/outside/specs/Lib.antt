@@ -7,7 +7,9 @@ pub mod Shelf
 pub mod Views
 pub mod ObjectMap
 pub mod MemShelf
+pub mod TornShelf
 pub mod ShelfSource
 pub mod ReadSource
 pub mod WriteSink
 pub mod DirShelf
+pub mod CallRecord

@@ -184,7 +184,7 @@ where
 }
 
 // Reads from a place on until the bytes are full or the file ends, and answers how many came.
-fn fill_from<F: FileExt>(file: &F, at: u64, bytes: &mut [u8]) -> io::Result<usize>
+pub(crate) fn fill_from<F: FileExt>(file: &F, at: u64, bytes: &mut [u8]) -> io::Result<usize>
     ensures { ReadsAtMost result bytes.new }
 {
     let mut filled = 0;
