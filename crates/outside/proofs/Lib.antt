@@ -3,3 +3,4 @@ pub mod BytesLaws
 pub mod ObjectLaws
 mod ObjectMapLaws
 pub mod ShelfLaws
+mod RecordLaws

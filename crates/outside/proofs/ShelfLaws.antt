@@ -1,9 +1,10 @@
 -- What reads of an object in order come to.
-use Rattle.std.proofs.Common.{◌≡◌, refl, ℕ, zero, suc, ◌+◌, ◌≤◌, List, [], ◌∷◌, ◌++◌, arith, length, take, drop, sym, ◌∙◌, ap, subst, Option, None, Some, IfSome, take-append-drop}
+use Rattle.std.proofs.Common.{◌≡◌, refl, ℕ, zero, suc, ◌+◌, ◌≤◌, List, [], ◌∷◌, ◌++◌, arith, length, take, drop, sym, ◌∙◌, ap, subst, Option, None, Some, IfSome, take-append-drop, inl, inr}
 use Rattle.std.proofs.Math.Seq.{drop-append_seam}
 use Rattle.std.proofs.lemmas.List.{drop-drop, take_all}
 use Rattle.std.specs.Io.KnownBytes.{Consumes}
-use Rattle.outside.specs.Shelf.{Objects, bytes_of, part_of, left_of}
+use Rattle.std.specs.FinMap as map
+use Rattle.outside.specs.Shelf.{Objects, bytes_of, part_of, left_of, CreateLeaves, AppendLeaves}
 
 -- a part, and what follows it
 pub part_of-rest : (bytes part : List ℕ) (at max : ℕ) → part ≡ part_of bytes at max → drop at bytes ≡ part ++ drop (at + length part) bytes
@@ -36,3 +37,10 @@ left_of-read held new name part at max next same place given =
     told : (held : Option Objects) → IfSome held (λ objects. part ≡ part_of (bytes_of objects name) at max) → Consumes (left_of held name at) (left_of held name (at + length part)) part
     told None given = tt
     told (Some objects) given = part_of-rest (bytes_of objects name) part at max given
+
+-- a front of the bytes is what a failed create, and a failed append, may leave
+pub CreateLeaves-front : (held new : Objects) (name bytes : List ℕ) (keep : ℕ) → new ≡ map.insert held name (take keep bytes) → CreateLeaves (Some held) (Some new) name bytes
+CreateLeaves-front held new name bytes keep is = inr (inl (take keep bytes, drop keep bytes, sym (take-append-drop keep bytes), ap Some is))
+
+pub AppendLeaves-front : (held new : Objects) (name bytes : List ℕ) (keep : ℕ) → new ≡ map.insert held name (bytes_of held name ++ take keep bytes) → AppendLeaves (Some held) (Some new) name bytes
+AppendLeaves-front held new name bytes keep is = inr (take keep bytes, drop keep bytes, sym (take-append-drop keep bytes), ap Some is)

@@ -4,7 +4,12 @@ pub mod CallPlan
 pub mod MemSource
 pub mod MemSink
 pub mod Shelf
+pub mod Views
 pub mod ObjectMap
 pub mod MemShelf
+pub mod TornShelf
 pub mod ShelfSource
+pub mod ReadSource
+pub mod WriteSink
 pub mod DirShelf
+pub mod CallRecord

@@ -3,30 +3,48 @@
 #![tactic(auto)]
 
 mod call_plan;
+mod call_record;
 mod dir_shelf;
+mod gate;
+mod hold_gate;
 mod mem_shelf;
 mod mem_sink;
 mod mem_source;
 mod object_map;
+mod one_fault;
 mod read_source;
+mod record_shelf;
 mod shelf;
 mod shelf_source;
 mod sink;
 mod source;
+mod torn_shelf;
 mod trouble;
 mod write_sink;
 
 pub use dir_shelf::DirShelf;
+pub use gate::{Gate, OpenGate, PointKind};
+pub use hold_gate::HoldGate;
 pub use mem_shelf::MemShelf;
 pub use mem_sink::MemSink;
 pub use mem_source::MemSource;
 pub use read_source::ReadSource;
+pub use record_shelf::RecordShelf;
 pub use shelf::Shelf;
 pub use shelf_source::ShelfSource;
 pub use sink::{Sink, write_all};
 pub use source::Source;
+pub use torn_shelf::TornShelf;
 pub use trouble::Trouble;
 pub use write_sink::WriteSink;
 
+#[cfg(test)]
+mod test_gates;
+#[cfg(test)]
+mod test_records;
+#[cfg(test)]
+mod test_short_reads;
+#[cfg(test)]
+mod test_torn;
 #[cfg(test)]
 mod tests;

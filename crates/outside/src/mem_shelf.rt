@@ -100,7 +100,7 @@ impl Shelf for MemShelf {
         if self.plan.next_fails() {
             return Err(Trouble::Fault);
         }
-        Ok(part_of(self.objects.bytes_of(name), at, max).to_vec(alloc)?)
+        Ok(self.objects.part_of(name, at, max).to_vec(alloc)?)
     }
 
     fn create(&mut self, name: &str, bytes: &[u8]) -> Result<(), Trouble>
@@ -144,13 +144,4 @@ impl Shelf for MemShelf {
         self.objects.remove(name);
         Ok(())
     }
-}
-
-// The bytes from the place `at` on, as many as `max` or to the end.
-fn part_of(bytes: &[u8], at: u64, max: usize) -> &[u8]
-    ensures { result.now ≡ part_of bytes.now at max }
-{
-    let start = bytes.len().min(at as usize);
-    let left = &bytes[start..];
-    &left[..max.min(left.len())]
 }

@@ -1,5 +1,5 @@
 // A source over bytes in memory.
-ghost use Rattle.std.specs.Prelude.{◌≡◌, ◌≤◌, [], Some, take, drop, vec_len, length, IfOk, OnOk, OnErr, MatchResult};
+ghost use Rattle.std.specs.Prelude.{◌≡◌, ◌==◌, ◌≤◌, [], Some, take, drop, vec_len, length, IsTrue, IfOk, OnOk, OnErr, MatchResult};
 ghost use Rattle.std.specs.Io.KnownBytes.{Keeps, Consumes, IsAtEnd};
 ghost use Rattle.outside.specs.CallPlan.{planned, GoesByPlan};
 ghost use Rattle.outside.specs.Faults.{HasCause};
@@ -46,7 +46,7 @@ impl MemSource {
 impl Source for MemSource {
     ghost left = { λ s. Some s.left };
 
-    ghost ended = { λ s. s.left ≡ [] };
+    ghost ended = { λ s. length s.left == 0 };
 
     ghost faults = { λ s. s.plan.faults };
 
@@ -56,8 +56,8 @@ impl Source for MemSource {
         ensures bytes { MatchResult result
             (λ bytes. Consumes (Some self.old.left) (Some self.new.left) bytes.items)
             (λ _. Keeps (Some self.old.left) (Some self.new.left)) }
-        ensures end { IfOk result (λ bytes. bytes.items ≡ [] → (self.new.left ≡ []) × IsAtEnd (Some self.new.left)) }
-        ensures stays { self.old.left ≡ [] → (self.new.left ≡ []) × IfOk result (λ bytes. bytes.items ≡ []) }
+        ensures end { IfOk result (λ bytes. bytes.items ≡ [] → IsTrue (length self.new.left == 0) × IsAtEnd (Some self.new.left)) }
+        ensures stays { IsTrue (length self.old.left == 0) → IsTrue (length self.new.left == 0) × IfOk result (λ bytes. bytes.items ≡ []) }
         ensures cause { HasCause self.old.plan.faults self.new.plan.faults result }
 
         // As many bytes as there are, and a fault exactly where the plan has one.

@@ -2,7 +2,7 @@
 ghost use Rattle.std.specs.Prelude.{◌≡◌, ◌++◌, OnOk, OnErr};
 ghost use Rattle.std.specs.Option.{option_copied};
 ghost use Rattle.std.specs.FinMap as map;
-ghost use Rattle.outside.specs.Shelf.{bytes_of};
+ghost use Rattle.outside.specs.Shelf.{bytes_of, part_of};
 
 use ss_base::Memory;
 use std::alloc::Global;
@@ -59,6 +59,16 @@ impl ObjectMap {
             Some(bytes) => bytes,
             None => &[],
         }
+    }
+
+    /// The object's bytes from the place `at` on, as many as `max` or to the end.
+    pub fn part_of(&self, name: &str, at: u64, max: usize) -> &[u8]
+        ensures { result.now ≡ part_of (bytes_of self.now name.now) at max }
+    {
+        let bytes = self.bytes_of(name);
+        let start = bytes.len().min(at as usize);
+        let left = &bytes[start..];
+        &left[..max.min(left.len())]
     }
 
     /// Makes the object hold exactly these bytes.

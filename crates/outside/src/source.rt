@@ -1,5 +1,5 @@
 // What bytes are read from.
-ghost use Rattle.std.specs.Prelude.{◌≡◌, ◌≤◌, ℕ, List, Option, [], vec_len, IfOk, MatchResult};
+ghost use Rattle.std.specs.Prelude.{◌≡◌, ◌≤◌, ℕ, Bool, List, Option, [], vec_len, IsTrue, IfOk, MatchResult};
 ghost use Rattle.std.specs.Io.KnownBytes.{Keeps, Consumes, IsAtEnd};
 ghost use Rattle.outside.specs.Faults.{HasCause};
 
@@ -12,7 +12,7 @@ pub trait Source {
     ghost left: { Self → Option (List ℕ) };
 
     /// The end was answered. It stays the end.
-    ghost ended: { Self → Type 0 };
+    ghost ended: { Self → Bool };
 
     /// How often this source has failed.
     ghost faults: { Self → ℕ };
@@ -24,7 +24,7 @@ pub trait Source {
         ensures bytes { MatchResult result
             (λ bytes. Consumes (left self.old) (left self.new) bytes.items)
             (λ _. Keeps (left self.old) (left self.new)) }
-        ensures end { IfOk result (λ bytes. bytes.items ≡ [] → ended self.new × IsAtEnd (left self.new)) }
-        ensures stays { ended self.old → ended self.new × IfOk result (λ bytes. bytes.items ≡ []) }
+        ensures end { IfOk result (λ bytes. bytes.items ≡ [] → IsTrue (ended self.new) × IsAtEnd (left self.new)) }
+        ensures stays { IsTrue (ended self.old) → IsTrue (ended self.new) × IfOk result (λ bytes. bytes.items ≡ []) }
         ensures cause { HasCause (faults self.old) (faults self.new) result };
 }

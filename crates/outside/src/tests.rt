@@ -34,7 +34,7 @@ fn answers<S: Source>(
     Ok(seen)
 }
 
-// Reads one byte, fails, ends, and would go on.
+// Is interrupted, reads one byte, fails, ends, and would go on.
 #[derive(Drop)]
 struct Flaky(u8);
 
@@ -42,8 +42,9 @@ impl Read for Flaky {
     fn read(&mut self, buf: &mut [u8]) -> io::Result<usize> {
         self.0 = self.0.saturating_add(1);
         match (self.0, buf) {
-            (2, _) => Err(io::Error::from(ErrorKind::BrokenPipe)),
-            (3, _) | (_, []) => Ok(0),
+            (1, _) => Err(io::Error::from(ErrorKind::Interrupted)),
+            (3, _) => Err(io::Error::from(ErrorKind::BrokenPipe)),
+            (4, _) | (_, []) => Ok(0),
             (_, [first, ..]) => {
                 *first = b'a';
                 Ok(1)
@@ -52,7 +53,7 @@ impl Read for Flaky {
     }
 }
 
-// Takes two bytes at a time, fails at the second call, and takes nothing at the fourth.
+// Takes two bytes at a time, is interrupted at the second call, fails at the third, and takes nothing at the fifth.
 #[derive(Drop)]
 struct Choked(u8);
 
@@ -60,8 +61,9 @@ impl Write for Choked {
     fn write(&mut self, buf: &[u8]) -> io::Result<usize> {
         self.0 = self.0.saturating_add(1);
         match self.0 {
-            2 => Err(io::Error::from(ErrorKind::BrokenPipe)),
-            4 => Ok(0),
+            2 => Err(io::Error::from(ErrorKind::Interrupted)),
+            3 => Err(io::Error::from(ErrorKind::BrokenPipe)),
+            5 => Ok(0),
             _ => Ok(buf.len().min(2)),
         }
     }

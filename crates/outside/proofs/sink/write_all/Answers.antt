@@ -1,4 +1,4 @@
-use Rattle.std.proofs.Common.{◌++◌, take, arith, sym, ◌∙◌, ap, take-append-drop}
+use Rattle.std.proofs.Common.{◌++◌, take, sym, ◌∙◌, ap, take-append-drop}
 use Rattle.std.proofs.lemmas.Result.{err_from_is_err_and}
 use Rattle.outside.proofs.BytesLaws.{Appends-then, AppendsFront-then, split_more}
 use Rattle.outside.proofs.sink.write_all.Goals as goal
@@ -15,5 +15,5 @@ loop-rest-preserved g c =
     let part = take c.in_ok-taken.taken c.loop-rest.rest.now in
     let next = sym (take-append-drop c.in_ok-taken.taken c.loop-rest.rest.now) ∙ ap (λ l. part ++ l) (sym c.split_at.ensures.back) in (
       (so_far.0 ++ part, split_more c.args.bytes.now so_far.0 c.loop-rest.rest.now part _ so_far.1 next, Appends-then _ _ _ so_far.0 part so_far.2 c.in_ok-taken.ensures.bytes),
-      omega (arith, c.loop-rest.invariant.1, c.write.ensures.cause.later),
+      c.in_ok-taken.ensures.cause.quiet ∙ c.loop-rest.invariant.1,
     )

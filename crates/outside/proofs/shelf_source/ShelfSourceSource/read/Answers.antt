@@ -5,5 +5,5 @@ use Rattle.outside.proofs.shelf_source.ShelfSourceSource.read.Goals as goal
 
 pub returns-clause-bytes : goal.returns-clause-bytes
 returns-clause-bytes g c =
-    let place : c.in-Some.at ≡ c.args.self.now.at + length c.in_ok-bytes.bytes.items = grind (arith, common_steps) in
-    left_of-read _ _ c.args.self.now.name.now c.in_ok-bytes.bytes.items c.args.self.now.at c.args.max c.in-Some.at c.read.ensures.held place c.in_ok-bytes.ensures.bytes
+    let place : c.args.self.now.at + c.len.result ≡ c.args.self.now.at + length c.in_ok-bytes.bytes.items = grind (arith, common_steps) in
+    left_of-read _ _ c.args.self.now.name.now c.in_ok-bytes.bytes.items c.args.self.now.at c.args.max (c.args.self.now.at + c.len.result) c.read.ensures.held place c.in_ok-bytes.ensures.bytes
