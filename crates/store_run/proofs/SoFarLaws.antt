@@ -49,9 +49,9 @@ chunks-first p old new chunk found taken first so_far more =
     ap (ended_parts (has_cut n)) (first more)
     ∙ ended_parts-first (has_cut n) chunk (cut n (new ++ more))
     (λ none.
-        let nothing = append-none new more (cut-none n (new ++ more) (AreSound-numbers_of p) none) in
-        let whole : old ≡ chunk = taken ∙ ap (λ (l : List ℕ). chunk ++ l) nothing ∙ append-nil chunk in
-        subst (λ (l : List ℕ). has_cut n l ≡ true) whole found)
+    let nothing = append-none new more (cut-none n (new ++ more) (AreSound-numbers_of p) none) in
+    let whole : old ≡ chunk = taken ∙ ap (λ (l : List ℕ). chunk ++ l) nothing ∙ append-nil chunk in
+    subst (λ (l : List ℕ). has_cut n l ≡ true) whole found)
 
 -- where no chunk is cut whatever comes, none is so far
 pub chunks-none : (p : Profile) (bytes : List ℕ) → has_cut (numbers_of p) bytes ≡ false → chunks_of so_far (numbers_of p) bytes ≡ []

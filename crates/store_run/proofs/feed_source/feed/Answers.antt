@@ -59,8 +59,8 @@ returns-then-is_empty-clause-early g c =
     let read = under_way-read _ _ (seen c.read.new.self) _ _ (still maker.text so_far c.args.printer.now) (still maker.text so_far old) [] (c.loop-piece.invariant.fed so_far).0 taken (still maker.text so_far old) (λ (more : List ℕ). refl) in
     on_early_weaker c.finish.result
     (λ why early.
-        subst (λ (w : Stop). IsHalted w c.args.limit (seen c.args.source.now) (seen c.read.new.self) (shown c.args.out.now) (shown c.finish.new.out) (still maker.text so_far c.args.printer.now) c.finish.new.self.waiting.items) (sym early.0)
-        (halted-memory _ _ (seen c.read.new.self) _ (shown c.finish.new.out) _ (still maker.text so_far c.finish.new.self) [] (under_way-printed _ _ _ _ (shown c.finish.new.out) _ _ (still maker.text so_far c.finish.new.self) read.0 early.1).0 (Consumes-nil _) c.args.limit c.finish.new.self.waiting.items _ refl))
+    subst (λ (w : Stop). IsHalted w c.args.limit (seen c.args.source.now) (seen c.read.new.self) (shown c.args.out.now) (shown c.finish.new.out) (still maker.text so_far c.args.printer.now) c.finish.new.self.waiting.items) (sym early.0)
+    (halted-memory _ _ (seen c.read.new.self) _ (shown c.finish.new.out) _ (still maker.text so_far c.finish.new.self) [] (under_way-printed _ _ _ _ (shown c.finish.new.out) _ _ (still maker.text so_far c.finish.new.self) read.0 early.1).0 (Consumes-nil _) c.args.limit c.finish.new.self.waiting.items _ refl))
     c.finish.ensures.early
 
 pub returns-then-is_empty-clause-unprinted : goal.returns-then-is_empty-clause-unprinted
@@ -135,8 +135,8 @@ returns-in_err-print_ready-clause-early g c =
     let halt = c.in_err-print_ready.field-0.0 in
     rw (p.1, p.2) (on_early_weaker {T = Unit {0}} (Err halt)
     (λ why early.
-        subst (λ (w : Stop). IsHalted w c.args.limit (seen c.args.source.now) (seen c.read.new.self) (shown c.args.out.now) (shown c.print_ready.new.out) (still maker.text so_far c.args.printer.now) now.waiting.items) (sym early.0)
-        (halted-memory _ _ (seen c.read.new.self) _ (shown c.print_ready.new.out) _ (still maker.text so_far now) [] (under_way-printed _ _ _ _ (shown c.print_ready.new.out) _ _ (still maker.text so_far now) read.0 early.1).0 (Consumes-nil _) c.args.limit now.waiting.items _ refl))
+    subst (λ (w : Stop). IsHalted w c.args.limit (seen c.args.source.now) (seen c.read.new.self) (shown c.args.out.now) (shown c.print_ready.new.out) (still maker.text so_far c.args.printer.now) now.waiting.items) (sym early.0)
+    (halted-memory _ _ (seen c.read.new.self) _ (shown c.print_ready.new.out) _ (still maker.text so_far now) [] (under_way-printed _ _ _ _ (shown c.print_ready.new.out) _ _ (still maker.text so_far now) read.0 early.1).0 (Consumes-nil _) c.args.limit now.waiting.items _ refl))
     c.in_err-print_ready.ensures.early)
 
 pub returns-in_err-print_ready-clause-unprinted : goal.returns-in_err-print_ready-clause-unprinted
