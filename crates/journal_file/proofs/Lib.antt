@@ -4,3 +4,4 @@ pub mod FrontLaws
 pub mod ReadLaws
 pub mod FoundLaws
 pub mod AnswerLaws
+pub mod CountLaws

@@ -5,7 +5,7 @@ use Rattle.std.specs.List.{AllByRecursion, flat_map}
 use Rattle.std.specs.declared.alloc.Global.{Global}
 use Rattle.ss_base.specs.declared.profile.Profile.{Profile}
 use Rattle.history.specs.declared.entry.Entry.{Entry}
-use Rattle.outside.specs.Shelf.{Given, read_of}
+use Rattle.outside.specs.Shelf.{Given, read_of, next_read}
 use Rattle.journal_file.specs.declared.fault.JournalFault.{JournalFault}
 use Rattle.journal_file.specs.declared.fault.JournalFault.TheVariants.{Shelf, NotStore, BadEntry, Memory}
 use Rattle.journal_file.specs.Header.{journal_name}
@@ -36,6 +36,20 @@ joined pieces = flat_map (λ piece. piece) pieces
 abbrev pub with_reads : Option (List Given) → List (List ℕ) → Option (List Given)
 with_reads told pieces = option_map (λ gave. gave ++ reads_from 0 pieces) told
 
+-- the count of reads after one more for each piece
+abbrev pub count_reads : ℕ → List (List ℕ) → ℕ
+count_reads reads [] = reads
+count_reads reads (piece ∷ pieces) = count_reads (next_read reads) pieces
+
+-- The reads that were made: those that gave a piece, and, where the shelf failed or wanted memory, perhaps one that
+-- gave none.
+abbrev pub AreCounted : Result (Profile × Vec Entry Global) JournalFault → ℕ → ℕ → List (List ℕ) → Type 0
+AreCounted (Ok found) before after pieces = after ≡ count_reads before pieces
+AreCounted (Err NotStore) before after pieces = after ≡ count_reads before pieces
+AreCounted (Err (BadEntry place)) before after pieces = after ≡ count_reads before pieces
+AreCounted (Err Shelf) before after pieces = (after ≡ count_reads before pieces) ⊎ (after ≡ next_read (count_reads before pieces))
+AreCounted (Err Memory) before after pieces = (after ≡ count_reads before pieces) ⊎ (after ≡ next_read (count_reads before pieces))
+
 -- each piece has bytes
 abbrev pub AreParts : List (List ℕ) → Type 0
 AreParts pieces = AllByRecursion (λ piece. piece ≢ []) pieces
@@ -51,9 +65,10 @@ abbrev pub EndsWith : Result (Profile × Vec Entry Global) JournalFault → List
 EndsWith (Ok found) pieces = ReadToEnd pieces
 EndsWith (Err fault) pieces = AreParts pieces ⊎ ReadToEnd pieces
 
--- Reads of the journal were made, one behind the other, and what they gave has the answer.
-pub record HasRead (old new : Option (List Given)) (result : Result (Profile × Vec Entry Global) JournalFault) : Type 0 where
+-- Reads of the journal were made, one behind the other and no others, and what they gave has the answer.
+pub record HasRead (old new : Option (List Given)) (before after : ℕ) (result : Result (Profile × Vec Entry Global) JournalFault) : Type 0 where
   pub pieces : List (List ℕ)
+  pub count : AreCounted result before after pieces
   pub gave : new ≡ with_reads old pieces
   pub end : EndsWith result pieces
   pub answer : IsAnswer result (joined pieces)

@@ -1,4 +1,7 @@
--- What a shelf's trouble makes of a call on the journal (this project's own).
+-- What a shelf's trouble makes of a call on the journal, and what the shelf's count of faults tells of it (this
+-- project's own).
+use Rattle.std.specs.Prelude.{◌≡◌, ℕ, Result, Ok, Err}
+use Rattle.outside.specs.Faults.{Rose}
 use Rattle.outside.specs.declared.trouble.Trouble.{Trouble}
 use Rattle.outside.specs.declared.trouble.Trouble.TheVariants.{Fault, Memory}
 use Rattle.journal_file.specs.declared.fault.CreateFault.{CreateFault}
@@ -19,3 +22,22 @@ journal_fault Memory = journal.Memory
 abbrev pub append_fault : Trouble → AppendFault
 append_fault Fault = added.Shelf
 append_fault Memory = added.Memory
+
+-- The count rose where the shelf failed in the call, and is as before elsewhere.
+abbrev pub CreateCount : {T : Type 0} → Result T CreateFault → ℕ → ℕ → Type 0
+CreateCount (Err create.Shelf) before after = Rose before after
+CreateCount (Err create.AlreadyStore) before after = after ≡ before
+CreateCount (Err create.Memory) before after = after ≡ before
+CreateCount (Ok x) before after = after ≡ before
+
+abbrev pub ReadCount : {T : Type 0} → Result T JournalFault → ℕ → ℕ → Type 0
+ReadCount (Err journal.Shelf) before after = Rose before after
+ReadCount (Err journal.NotStore) before after = after ≡ before
+ReadCount (Err (journal.BadEntry place)) before after = after ≡ before
+ReadCount (Err journal.Memory) before after = after ≡ before
+ReadCount (Ok x) before after = after ≡ before
+
+abbrev pub AppendCount : {T : Type 0} → Result T AppendFault → ℕ → ℕ → Type 0
+AppendCount (Err added.Shelf) before after = Rose before after
+AppendCount (Err added.Memory) before after = after ≡ before
+AppendCount (Ok x) before after = after ≡ before

@@ -1,10 +1,10 @@
 // More entries of a journal.
-ghost use Rattle.std.specs.Prelude.{◌≡◌, ◌≤◌, List, [], All, IfOk, IsOk, IsErrOf, OnOk, MatchResult};
+ghost use Rattle.std.specs.Prelude.{◌≡◌, ◌≤◌, [], All, IfOk, IsOk, OnOk, MatchResult};
 ghost use Rattle.std.specs.List.{AllByRecursion};
-ghost use Rattle.outside.specs.Faults.{Rose};
 ghost use Rattle.outside.specs.Shelf.{AppendLeaves};
 ghost use Rattle.history.specs.Bounds.{IsEntry, IsWithinBounds};
 ghost use Rattle.history.specs.EntryText.{entries_text};
+ghost use Rattle.journal_file.specs.Cause.{AppendCount};
 ghost use Rattle.journal_file.specs.Header.{journal_name};
 ghost use Rattle.journal_file.specs.Adding.{with_entries, with_write};
 
@@ -33,7 +33,7 @@ pub fn append<S: Shelf>(alloc: Global, shelf: &mut S, entries: &[Entry]) -> Resu
     ensures erased { S.erased shelf.new ≡ S.erased shelf.old }
     ensures reads { S.reads shelf.new ≡ S.reads shelf.old }
     ensures later { S.faults shelf.old ≤ S.faults shelf.new }
-    ensures fault { IsErrOf result AppendFault.Shelf → Rose (S.faults shelf.old) (S.faults shelf.new) }
+    ensures count { AppendCount result (S.faults shelf.old) (S.faults shelf.new) }
 {
     if entries.is_empty() {
         return Ok(());

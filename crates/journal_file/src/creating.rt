@@ -1,8 +1,8 @@
 // A new journal.
-ghost use Rattle.std.specs.Prelude.{◌≡◌, ◌≤◌, IfSome, IsErrOf, IsTrue, OnOk, OnErr, MatchResult};
+ghost use Rattle.std.specs.Prelude.{◌≡◌, ◌≤◌, IfSome, IsErrOf, IsTrue, OnOk, MatchResult};
 ghost use Rattle.std.specs.FinMap.{contains_key};
-ghost use Rattle.outside.specs.Faults.{Rose};
 ghost use Rattle.outside.specs.Shelf.{with_object, CreateLeaves, write_of, one_more};
+ghost use Rattle.journal_file.specs.Cause.{CreateCount};
 ghost use Rattle.journal_file.specs.Header.{journal_name, header_text};
 
 use crate::CreateFault;
@@ -32,7 +32,7 @@ pub fn create<S: Shelf>(shelf: &mut S, profile: Profile) -> Result<(), CreateFau
     ensures erased { S.erased shelf.new ≡ S.erased shelf.old }
     ensures reads { S.reads shelf.new ≡ S.reads shelf.old }
     ensures later { S.faults shelf.old ≤ S.faults shelf.new }
-    ensures fault { IsErrOf result CreateFault.Shelf → Rose (S.faults shelf.old) (S.faults shelf.new) }
+    ensures count { CreateCount result (S.faults shelf.old) (S.faults shelf.new) }
 {
     if shelf.has("journal")? {
         return Err(CreateFault::AlreadyStore);

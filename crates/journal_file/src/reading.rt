@@ -1,7 +1,7 @@
 // A journal as it stands on a shelf.
-ghost use Rattle.std.specs.Prelude.{◌≡◌, ◌≤◌, IfSome, IsErrOf};
-ghost use Rattle.outside.specs.Faults.{Rose};
+ghost use Rattle.std.specs.Prelude.{◌≡◌, ◌≤◌, IfSome};
 ghost use Rattle.outside.specs.Shelf.{bytes_of};
+ghost use Rattle.journal_file.specs.Cause.{ReadCount};
 ghost use Rattle.journal_file.specs.Header.{journal_name};
 ghost use Rattle.journal_file.specs.Answer.{IsAnswer, HasRead};
 
@@ -22,13 +22,13 @@ const PIECE: usize = 65_536;
 /// would be past 2^20 entries or past a weight of 2^24; `at` is the first such place.
 pub fn read<S: Shelf>(alloc: Global, shelf: &mut S) -> Result<(Profile, Vec<Entry>), JournalFault>
     ensures told { IfSome (S.held shelf.old) (λ objects. IsAnswer result (bytes_of objects journal_name)) }
-    ensures gave { HasRead (S.gave shelf.old) (S.gave shelf.new) result }
+    ensures gave { HasRead (S.gave shelf.old) (S.gave shelf.new) (S.reads shelf.old) (S.reads shelf.new) result }
 
     ensures held { S.held shelf.new ≡ S.held shelf.old }
     ensures wrote { S.wrote shelf.new ≡ S.wrote shelf.old }
     ensures erased { S.erased shelf.new ≡ S.erased shelf.old }
     ensures later { S.faults shelf.old ≤ S.faults shelf.new }
-    ensures fault { IsErrOf result JournalFault.Shelf → Rose (S.faults shelf.old) (S.faults shelf.new) }
+    ensures count { ReadCount result (S.faults shelf.old) (S.faults shelf.new) }
 {
     if !shelf.has("journal")? {
         return Err(JournalFault::NotStore);

@@ -25,10 +25,6 @@ advances-of old new before after of before' after' at_first at_last way = record
   rest = λ more. at_first more ∙ way.rest (of more) ∙ ap (λ (l : List ℕ). way.done ++ l) (sym (at_last more));
 }
 
--- what was written is a front
-pub advances-front : {A : Type 0} (old new : Option (List ℕ)) (before after : A → List ℕ) (more : A) → Advances old new before after → AppendsFront old new (before more)
-advances-front old new before after more way = (way.done, after more, way.rest more, way.written)
-
 -- a front of what was left follows
 pub advances-cut : {A : Type 0} (old new now : Option (List ℕ)) (before after : A → List ℕ) (more : A) → Advances old new before after → AppendsFront new now (after more) → AppendsFront old now (before more)
 advances-cut old new now before after more way front =
@@ -55,7 +51,3 @@ moves-advances old new waiting waiting' text before after lines move = record {
 pub front-more : (old new : Option (List ℕ)) (text more : List ℕ) → AppendsFront old new text → AppendsFront old new (text ++ more)
 front-more old new text more (front, back, split, written) =
     (front, back ++ more, ap (λ (l : List ℕ). l ++ more) split ∙ append_assoc front back more, written)
-
--- nothing written is a front of any text
-pub front-none : (old : Option (List ℕ)) (text : List ℕ) → AppendsFront old old text
-front-none old text = ([], text, refl, Appends-none old)

@@ -1,5 +1,7 @@
 mod AdvancesLaws
 mod AnswerLaws
+mod CommandLaws
 mod FeedLaws
 mod ResultLaws
-mod StatusLaws
+mod SoFarLaws
+mod StoreLaws

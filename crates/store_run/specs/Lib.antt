@@ -1,3 +1,7 @@
+pub use Rattle.outside.specs.Views
+pub use Rattle.outside.specs.Faults
+pub use Rattle.outside.specs.Bytes
+pub use Rattle.outside.specs.Shelf
 pub mod Advances
 pub mod Command
 pub mod Feed
@@ -7,4 +11,5 @@ pub mod Lines
 pub mod Output
 pub mod Run
 pub mod SegmentLines
+pub mod SoFar
 pub mod Stop

@@ -6,9 +6,9 @@ use Rattle.ss_base.specs.declared.name.Piece.{Piece}
 use Rattle.ss_base.specs.declared.profile.Numbers.{Numbers}
 use Rattle.chunk_name.specs.Hex.{encode_lower}
 use Rattle.chunk_name.specs.Pieces.{name_of_bytes, piece, pieces}
-use Rattle.segmenter.specs.Segments.{segments}
 use Rattle.hook_sampler.specs.Hooks.{hooks}
 use Rattle.manifest_codec.specs.PiecesPart.{pieces_part}
+use Rattle.store_run.specs.SoFar.{Stage, segments_of}
 
 -- the line of a piece: the digits of its name, a space, its length, LF
 unfoldable pub piece_line : Piece → List ℕ
@@ -30,6 +30,6 @@ segment_line bits chunks =
     ++ decimal (length (hooks bits (pieces chunks)))
     ++ 10 ∷ []
 
--- the lines of the segments of a list of chunks
-abbrev pub segment_lines : Numbers → List (List ℕ) → List ℕ
-segment_lines n chunks = flat_map (segment_line n.bits) (segments n chunks)
+-- the lines of the segments of the chunks that came
+abbrev pub segment_lines : Stage → Numbers → List (List ℕ) → List ℕ
+segment_lines stage n chunks = flat_map (segment_line n.bits) (segments_of stage n chunks)

@@ -1,57 +1,65 @@
 -- What a run did (this project's own).
-use Rattle.std.specs.Prelude.{◌≡◌, ◌≢◌, ◌⊎◌, ℕ, List, ◌++◌, Option, IfSome, IsTrue}
-use Rattle.std.specs.Io.KnownBytes.{Consumes, Appends}
-use Rattle.outside.specs.Bytes.{AppendsFront}
-use Rattle.store_run.specs.declared.stop.Stop.{Stop}
-use Rattle.store_run.specs.declared.stop.Stop.TheVariants.{Memory, Usage}
-use Rattle.store_run.specs.Feed.{max_stream, Exceeds, IsPrinted}
-use Rattle.store_run.specs.Stop.{fault_line, status_of}
-use Rattle.ss_base.specs.declared.profile.Profile.{Profile}
-use Rattle.outside.specs.Shelf.{Objects, with_object, CreateLeaves}
-use Rattle.journal_file.specs.Header.{journal_name, header_text}
+use Rattle.std.specs.Prelude.{◌≡◌, ℕ, List, [], ◌∷◌, ◌++◌, IfSome, IsTrue}
 use Rattle.std.specs.FinMap.{contains_key}
+use Rattle.ss_base.specs.declared.profile.Profile.{Profile}
+use Rattle.outside.specs.Shelf.{with_object, CreateLeaves, write_of, one_more}
+use Rattle.outside.specs.Views.{SourceView, SinkView, ShelfView, SinkFailed, ShelfFailed, Takes, TakesFront}
+use Rattle.journal_file.specs.Header.{journal_name, header_text}
+use Rattle.store_run.specs.declared.stop.Stop.{Stop}
+use Rattle.store_run.specs.declared.stop.Stop.TheVariants.{Usage, Memory, AlreadyStore, DepotFault}
+use Rattle.store_run.specs.Feed.{max_stream, IsPrinted, IsCutShort, EndsFor}
+use Rattle.store_run.specs.SoFar.{Stage, at_end, so_far}
+use Rattle.store_run.specs.Stop.{fault_line, status_of, sink_fault, least_status, SourceCount}
 
--- the statuses of a run that prints the text of its source, and of one that makes a store
-abbrev pub IsStreamStatus : ℕ → Type 0
-IsStreamStatus status = (status ≡ 0) ⊎ ((status ≡ 7) ⊎ ((status ≡ 8) ⊎ ((status ≡ 9) ⊎ (status ≡ 12))))
+-- A run that ended early, for this cause and behind these lines, printed them and its fault line, and ended with its
+-- status. Where the sink failed, a front of them was printed, and the least status stands; where a write wanted
+-- memory, a front too, and the status is 8.
+pub data Refuses (why : Stop) (lines : List ℕ) (sink sink' : SinkView) (status : ℕ) : Type 0 where
+  told : status ≡ status_of why → Takes sink sink' (lines ++ fault_line why) → sink'.faults ≡ sink.faults → Refuses why lines sink sink' status
+  sink_failed : status ≡ least_status (status_of why ∷ sink_fault ∷ []) → TakesFront sink sink' (lines ++ fault_line why) → SinkFailed sink sink' → Refuses why lines sink sink' status
+  memory_wanted : status ≡ 8 → TakesFront sink sink' (lines ++ fault_line why) → sink'.faults ≡ sink.faults → Refuses why lines sink sink' status
 
-abbrev pub IsInitStatus : ℕ → Type 0
-IsInitStatus status = (status ≡ 0) ⊎ ((status ≡ 4) ⊎ ((status ≡ 8) ⊎ ((status ≡ 9) ⊎ (status ≡ 11))))
+-- A run that prints the text of its source's bytes. It printed all of it; or it ended early, behind the lines that were
+-- whole by then; or a line could not be printed, for the sink failed or a write wanted memory.
+pub data StreamAnswer (text : Stage → List ℕ → List ℕ) (source source' : SourceView) (sink sink' : SinkView) (status : ℕ) : Type 0 where
+  printed : status ≡ 0 → IsPrinted max_stream source source' sink sink' (text at_end) → source'.faults ≡ source.faults → sink'.faults ≡ sink.faults
+      → StreamAnswer text source source' sink sink' status
+  ended_early : (why : Stop) (lines : List ℕ) → EndsFor why max_stream source source' (text so_far) lines → SourceCount why source.faults source'.faults → Refuses why lines sink sink' status
+      → StreamAnswer text source source' sink sink' status
+  line_failed : status ≡ sink_fault → IsCutShort source source' sink sink' (text at_end) → source'.faults ≡ source.faults → SinkFailed sink sink'
+      → StreamAnswer text source source' sink sink' status
+  line_wanted_memory : status ≡ 8 → IsCutShort source source' sink sink' (text at_end) → source'.faults ≡ source.faults → sink'.faults ≡ sink.faults
+      → StreamAnswer text source source' sink sink' status
 
--- these lines are a front of the text of bytes that the source gave
-pub record AreLines (text : List ℕ → List ℕ) (left left' : Option (List ℕ)) (lines : List ℕ) : Type 0 where
-  pub bytes : List ℕ
-  pub rest : List ℕ
-  pub taken : Consumes left left' bytes
-  pub front : text bytes ≡ lines ++ rest
+-- a run of words that no command has
+abbrev pub UsageAnswer : SinkView → SinkView → ℕ → Type 0
+UsageAnswer sink sink' status = Refuses Usage [] sink sink' status
 
--- A run that prints the text of its source: what each status means, and what was printed. A run that ends early
--- prints lines of what it took and then its fault line, all of it unless the sink failed.
-pub record StreamAnswer (text : List ℕ → List ℕ) (left left' : Option (List ℕ)) (ended' : Type 0) (written written' : Option (List ℕ)) (SourceRose SinkRose : Type 0) (status : ℕ) : Type 0 where
-  pub answers : IsStreamStatus status
-  pub done : status ≡ 0 → IsPrinted max_stream left left' ended' written written' text
-  pub too_long : status ≡ 7 → Exceeds max_stream left
-  pub sink_fault : status ≡ 9 → SinkRose
-  pub source_fault : status ≡ 12 → SourceRose
-  pub refused : (why : Stop) → why ≢ Memory → status ≡ status_of why → ((lines : List ℕ) × AreLines text left left' lines × Appends written written' (lines ++ fault_line why)) ⊎ SinkRose
-  pub printed : (why : Stop) × (lines : List ℕ) × AreLines text left left' lines × AppendsFront written written' (lines ++ fault_line why)
+-- what is known of a store's journal, where the depot tells its objects
+abbrev pub HasJournal : ShelfView → Type 0
+HasJournal depot = IfSome depot.held (λ objects. IsTrue (contains_key objects journal_name))
 
--- A run of words that no command has: it prints its fault line and takes nothing.
-pub record UsageAnswer (written written' : Option (List ℕ)) (SinkRose : Type 0) (status : ℕ) : Type 0 where
-  pub answers : (status ≡ 1) ⊎ (status ≡ 8)
-  pub whole : status ≡ 1 → Appends written written' (fault_line Usage) ⊎ SinkRose
-  pub printed : AppendsFront written written' (fault_line Usage)
+abbrev pub HasNoJournal : ShelfView → Type 0
+HasNoJournal depot = IfSome depot.held (λ objects. IsTrue (contains_key objects journal_name) → ⊥)
 
--- A run of `init P`: at 0 the journal of a store without entries was made where none was, and nothing was printed.
--- A store that is there is not touched.
-pub record InitAnswer (profile : Profile) (held held' : Option Objects) (written written' : Option (List ℕ)) (DepotRose SinkRose : Type 0) (status : ℕ) : Type 0 where
-  pub answers : IsInitStatus status
-  pub done : status ≡ 0 → (held' ≡ with_object held journal_name (header_text profile)) × (written' ≡ written)
-  pub absent : status ≡ 0 → IfSome held (λ objects. ¬ IsTrue (contains_key objects journal_name))
-  pub already : status ≡ 11 → IfSome held (λ objects. IsTrue (contains_key objects journal_name))
-  pub untouched : IfSome held (λ objects. IsTrue (contains_key objects journal_name) → held' ≡ held)
-  pub leaves : status ≢ 0 → CreateLeaves held held' journal_name (header_text profile)
-  pub depot_fault : status ≡ 4 → DepotRose
-  pub sink_fault : status ≡ 9 → SinkRose
-  pub refused : (why : Stop) → why ≢ Memory → status ≡ status_of why → Appends written written' (fault_line why) ⊎ SinkRose
-  pub printed : (why : Stop) × AppendsFront written written' (fault_line why)
+-- The journal of a store was not made for want of memory, or for a fault. It may be absent, or hold a front of its
+-- header; one that was there is as before. Nothing else was done.
+pub record IsLeft (profile : Profile) (depot depot' : ShelfView) : Type 0 where
+  pub leaves : CreateLeaves depot.held depot'.held journal_name (header_text profile)
+  pub untouched : IfSome depot.held (λ objects. IsTrue (contains_key objects journal_name) → depot'.held ≡ depot.held)
+  pub others : depot' ≡ record depot { held = depot'.held; faults = depot'.faults }
+
+-- why no store was made, and what was done: nothing where there is one
+abbrev pub IsUnmade : Stop → Profile → ShelfView → ShelfView → Type 0
+IsUnmade AlreadyStore profile depot depot' = HasJournal depot × (depot' ≡ depot)
+IsUnmade DepotFault profile depot depot' = IsLeft profile depot depot' × ShelfFailed depot depot'
+IsUnmade Memory profile depot depot' = IsLeft profile depot depot' × (depot'.faults ≡ depot.faults)
+IsUnmade _ profile depot depot' = ⊥
+
+-- A run of `init P`: the journal of a store without entries was made where none was, and nothing was printed; or it
+-- was not made, for a cause whose line was printed.
+pub data InitAnswer (profile : Profile) (depot depot' : ShelfView) (sink sink' : SinkView) (status : ℕ) : Type 0 where
+  made : status ≡ 0 → HasNoJournal depot
+      → depot' ≡ record depot { held = with_object depot.held journal_name (header_text profile); wrote = one_more depot.wrote (write_of journal_name (header_text profile)) }
+      → sink' ≡ sink → InitAnswer profile depot depot' sink sink' status
+  not_made : (why : Stop) → IsUnmade why profile depot depot' → Refuses why [] sink sink' status → InitAnswer profile depot depot' sink sink' status

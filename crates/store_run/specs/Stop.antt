@@ -1,7 +1,8 @@
 -- Why a run ends early, what it then prints, and its status (this project's own).
-use Rattle.std.specs.Prelude.{ℕ, List, [], ◌∷◌, ◌++◌, ◌≡◌, ◌⊎◌, codes}
-use Rattle.outside.specs.declared.trouble.Trouble.{Trouble}
-use Rattle.outside.specs.declared.trouble.Trouble.TheVariants as trouble
+use Rattle.std.specs.Prelude.{◌≡◌, ℕ, Bool, ◌==◌, ◌&&◌, not, if◌then◌else◌, unwrap_or, List, [], ◌∷◌, ◌++◌, codes}
+use Rattle.std.specs.List.{list_any}
+use Rattle.ss_base.specs.Search.{least}
+use Rattle.outside.specs.Faults.{Rose}
 use Rattle.store_run.specs.declared.stop.Stop.{Stop}
 use Rattle.store_run.specs.declared.stop.Stop.TheVariants.{Usage, TooLong, Memory, AlreadyStore, SourceFault, DepotFault}
 
@@ -23,19 +24,20 @@ status_of Memory = 8
 status_of AlreadyStore = 11
 status_of SourceFault = 12
 
--- what a source's trouble makes of a run
-abbrev pub stop_of : Trouble → Stop
-stop_of trouble.Fault = SourceFault
-stop_of trouble.Memory = Memory
+-- the source's count of faults rose where it is the cause, and is as before where it is not
+abbrev pub SourceCount : Stop → ℕ → ℕ → Type 0
+SourceCount SourceFault before after = Rose before after
+SourceCount _ before after = after ≡ before
 
--- The status of a run that ends early is that of its cause. It is 8 where want of memory kept the line from being
--- printed, and 9 where memory was wanted and the sink failed too.
-abbrev pub EndsWith : Stop → ℕ → Type 0
-EndsWith why status = (status ≡ status_of why) ⊎ ((status ≡ 8) ⊎ ((why ≡ Memory) × (status ≡ 9)))
+-- the status that stands where the sink failed
+abbrev pub sink_fault : ℕ
+sink_fault = 9
 
--- a cause for which the printing of a stream ends early
-abbrev pub IsStreamStop : Stop → Type 0
-IsStreamStop TooLong = Unit {0}
-IsStreamStop Memory = Unit {0}
-IsStreamStop SourceFault = Unit {0}
-IsStreamStop _ = ⊥
+-- whether a status stands
+abbrev pub stands : List ℕ → ℕ → Bool
+stands statuses n = list_any (λ s. s == n) statuses
+
+-- the answer of a run in which these statuses stand: the least of them other than 0 and 8; 8 where no other stands,
+-- and 0 where none does
+unfoldable pub least_status : List ℕ → ℕ
+least_status statuses = unwrap_or (least (λ n. stands statuses n && not (n == 8)) 1 12) (if stands statuses 8 then 8 else 0)

@@ -12,7 +12,7 @@ use std::alloc::Global;
 pub struct NameLines;
 
 impl ChunkLines for NameLines {
-    ghost text = { λ _ chunks. chunk_lines chunks };
+    ghost text = { λ _ _ chunks. chunk_lines chunks };
 
     ghost most = { λ _. 11200 };
 

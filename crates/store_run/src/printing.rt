@@ -4,6 +4,7 @@ ghost use Rattle.std.specs.Io.KnownBytes.{Appends};
 ghost use Rattle.outside.specs.Bytes.{AppendsFront};
 ghost use Rattle.outside.specs.Faults.{HasCause};
 ghost use Rattle.store_run.specs.Advances.{Advances, Moves};
+ghost use Rattle.store_run.specs.SoFar.{Stage, at_end, so_far};
 
 use crate::chunk_lines::ChunkLines;
 use outside::{Sink, Trouble, write_all};
@@ -24,10 +25,12 @@ pub fn print_chunk<L: ChunkLines, O: Sink>(
     requires some { 1 ≤ length chunk.now }
     requires fits { length chunk.now ≤ L.most lines.old }
     ensures most { L.most lines.new ≡ L.most lines.old }
-    ensures ok { OnOk result (Advances (O.written out.old) (O.written out.new)
-        (λ later. waiting.old.items ++ L.text lines.old (chunk.now ∷ later)) (λ later. waiting.new.items ++ L.text lines.new later)) }
+    ensures ok { OnOk result ((stage : Stage) → Advances (O.written out.old) (O.written out.new)
+        (λ later. waiting.old.items ++ L.text stage lines.old (chunk.now ∷ later))
+        (λ later. waiting.new.items ++ L.text stage lines.new later)) }
+    ensures none_whole { OnOk result (L.text so_far lines.new [] ≡ []) }
     ensures err { OnErr result ((later : List (List ℕ)) →
-        AppendsFront (O.written out.old) (O.written out.new) (waiting.old.items ++ L.text lines.old
+        AppendsFront (O.written out.old) (O.written out.new) (waiting.old.items ++ L.text at_end lines.old
         (chunk.now ∷ later))) }
     ensures cause { HasCause (O.faults out.old) (O.faults out.new) result }
 {
@@ -44,9 +47,9 @@ pub fn print_rest<L: ChunkLines, O: Sink>(
     out: &mut O,
 ) -> Result<(), Trouble>
     ensures ok { OnOk result (Appends (O.written out.old) (O.written out.new)
-        (waiting.old.items ++ L.text lines.old [])) }
+        (waiting.old.items ++ L.text at_end lines.old [])) }
     ensures err { OnErr result (AppendsFront (O.written out.old) (O.written out.new)
-        (waiting.old.items ++ L.text lines.old [])) }
+        (waiting.old.items ++ L.text at_end lines.old [])) }
     ensures cause { HasCause (O.faults out.old) (O.faults out.new) result }
 {
     let text = lines.rest(alloc)?;

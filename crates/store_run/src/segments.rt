@@ -1,7 +1,9 @@
 // `segments`: one line for each segment.
-ghost use Rattle.std.specs.Prelude.{◌≡◌, ◌≤◌, List, ℕ, [], IfOk, string_bytes};
+ghost use Rattle.std.specs.Prelude.{◌≡◌, ◌≤◌, List, ℕ, length, IfOk, string_bytes};
 ghost use Rattle.ss_base.specs.Profile.{numbers_of};
+ghost use Rattle.ss_base.specs.Search.{NonePasses};
 ghost use Rattle.segmenter.specs.Segment.{HasChunks};
+ghost use Rattle.segmenter.specs.Segments.{ends_at};
 ghost use Rattle.store_run.specs.Lines.{segment_line};
 
 use crate::chunk_lines::ChunkLines;
@@ -20,6 +22,7 @@ pub struct SegmentLines {
     bits: u32,
     ghost sampled: { bits ≡ segmenter.numbers.bits },
     ghost few: { bits ≤ 32 },
+    ghost pending: { NonePasses (ends_at segmenter.numbers segmenter.chunks) 1 (length segmenter.chunks) },
 }
 
 impl SegmentLines {
@@ -40,7 +43,7 @@ impl ChunkLines for SegmentLines {
     ghost use Rattle.std.specs.Prelude.{◌++◌};
     ghost use Rattle.store_run.specs.Lines.{segment_lines};
 
-    ghost text = { λ s chunks. segment_lines s.segmenter.numbers (s.segmenter.chunks ++ chunks) };
+    ghost text = { λ stage s chunks. segment_lines stage s.segmenter.numbers (s.segmenter.chunks ++ chunks) };
 
     ghost most = { λ s. s.segmenter.numbers.tmax };
 

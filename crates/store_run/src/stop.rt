@@ -1,9 +1,6 @@
 // Runs that end early.
-ghost use Rattle.std.specs.Prelude.{◌≡◌, ◌≢◌, ◌⊎◌};
-ghost use Rattle.std.specs.Io.KnownBytes.{Appends};
-ghost use Rattle.outside.specs.Bytes.{AppendsFront};
-ghost use Rattle.outside.specs.Faults.{Rose};
-ghost use Rattle.store_run.specs.Stop.{fault_line, status_of, stop_of};
+ghost use Rattle.std.specs.Prelude.{◌≡◌, [], ◌∷◌};
+ghost use Rattle.store_run.specs.Stop.{fault_line, status_of, sink_fault, least_status};
 ghost use Rattle.store_run.specs.declared.stop.Stop.TheVariants.{Memory};
 ghost use Rattle.store_run.specs.declared.stop.Halt.TheVariants.{Early, Unprinted};
 
@@ -28,16 +25,6 @@ pub enum Stop {
 }
 
 impl Stop {
-    /// Why a run ends where its source answers this.
-    pub fn of_source(trouble: Trouble) -> Self
-        ensures { result ≡ stop_of trouble }
-    {
-        match trouble {
-            Trouble::Fault => Stop::SourceFault,
-            Trouble::Memory => Stop::Memory,
-        }
-    }
-
     /// The fault line, with its LF.
     pub fn line(self) -> &'static [u8]
         ensures { result.now ≡ fault_line self }
@@ -63,6 +50,21 @@ impl Stop {
             Stop::Memory => 8,
             Stop::AlreadyStore => 11,
             Stop::SourceFault => 12,
+        }
+    }
+
+    /// The status where the sink failed too: the less of its own and 9, where its own is not 8.
+    #[tactic(auto, unfolding(crate::specs::Stop::least_status, ss_base::specs::Search::least))]
+    pub fn status_beside_sink_fault(self) -> u8
+        ensures { result ≡ least_status (status_of self ∷ sink_fault ∷ []) }
+    {
+        match self {
+            Stop::Usage => 1,
+            Stop::DepotFault => 4,
+            Stop::TooLong => 7,
+            Stop::Memory => 9,
+            Stop::AlreadyStore => 9,
+            Stop::SourceFault => 9,
         }
     }
 }

@@ -25,11 +25,15 @@ fn empty_lane(alloc: Global, fails: &[u32]) -> Result<Lane<MemShelf, MemShelf>, 
     })
 }
 
-// The status of `init tiny` in this lane, and what it printed.
-fn init(alloc: Global, lane: &mut Lane<MemShelf, MemShelf>) -> Result<(u8, Vec<u8>), Fail> {
+// The status of `init tiny` in this lane, and what it printed; the writes with these numbers fail.
+fn init(
+    alloc: Global,
+    lane: &mut Lane<MemShelf, MemShelf>,
+    sink_fails: &[u32],
+) -> Result<(u8, Vec<u8>), Fail> {
     let words = owned(alloc, &["init", "tiny"])?;
     let mut script = MemSource::new(Vec::new(alloc), Vec::new(alloc));
-    let mut out = MemSink::new(alloc, Vec::new(alloc));
+    let mut out = MemSink::new(alloc, sink_fails.to_vec(alloc)?);
     let status = run_solo(alloc, &words, &mut script, &mut out, lane);
     Ok((status, out.bytes().to_vec(alloc)?))
 }
@@ -189,13 +193,11 @@ fn words_of_no_command(rt: HostRuntime) -> Result<(), Fail> {
 fn faults_and_their_lines(rt: HostRuntime) -> Result<(), Fail> {
     let alloc = rt.alloc();
     let abc = "ba7816bf8f01cfea414140de5dae2223b00361a396177a9cb410ff61f20015ad 3\n";
-    let rows: [(&[&str], &[u32], &[u32], u8, &str); 7] = [
+    let rows: [(&[&str], &[u32], &[u32], u8, &str); 5] = [
         (&["names", "tiny"], &[], &[], 0, abc),
         (&["names", "tiny"], &[1], &[], 12, "source fault\n"),
         (&["names", "tiny"], &[2], &[], 12, "source fault\n"),
         (&["names", "tiny"], &[], &[1], 9, ""),
-        (&["names", "tiny"], &[1], &[1], 12, ""),
-        (&["names", "huge"], &[1], &[1], 1, ""),
         (&["names", "tiny"], &[3], &[2], 0, abc),
     ];
     for (words, source_fails, sink_fails, expected, text) in rows.iter() {
@@ -203,6 +205,81 @@ fn faults_and_their_lines(rt: HostRuntime) -> Result<(), Fail> {
         assert_eq!(rt; status, *expected);
         assert_eq!(rt; printed.as_slice(), text.as_bytes());
     }
+    Ok(())
+}
+
+// Of the statuses that stand the least is answered: 9 stands where the sink failed. The lines of two segments are
+// written before the second write, which is that of the fault line.
+#[test]
+fn the_sink_fails_beside_another_cause(rt: HostRuntime) -> Result<(), Fail> {
+    let alloc = rt.alloc();
+    let zeros = vec![in alloc; 0; 5_000]?;
+    let lines = "7931b60021fd58ae054bc229d63f91f097debbe1289b985cc495291b142438dd 8 2048 1\n\
+                 7931b60021fd58ae054bc229d63f91f097debbe1289b985cc495291b142438dd 8 2048 1\n";
+    let rows: [(&[&str], &[u32], &[u32], u8, &str); 6] = [
+        (&["names", "tiny"], &[1], &[1], 9, ""),
+        (&["segments", "tiny"], &[1], &[1], 9, ""),
+        (&["segments", "tiny"], &[2], &[1], 9, ""),
+        (&["segments", "tiny"], &[2], &[2], 9, lines),
+        (&["segments", "tiny"], &[], &[1], 9, ""),
+        (&["names", "huge"], &[], &[1], 1, ""),
+    ];
+    for (words, source_fails, sink_fails, expected, text) in rows.iter() {
+        let (status, printed) = run(alloc, words, &zeros, source_fails, sink_fails)?;
+        assert_eq!(rt; status, *expected);
+        assert_eq!(rt; printed.as_slice(), text.as_bytes());
+    }
+    Ok(())
+}
+
+#[test]
+fn the_sink_fails_beside_init(rt: HostRuntime) -> Result<(), Fail> {
+    let alloc = rt.alloc();
+    let mut lane = empty_lane(alloc, &[])?;
+    for expected in [0, 9, 9] {
+        let (status, printed) = init(alloc, &mut lane, &[1])?;
+        assert_eq!(rt; status, expected);
+        assert_eq!(rt; printed.len(), 0);
+    }
+    for fails in [[1], [2]] {
+        let mut lane = empty_lane(alloc, &fails)?;
+        let (status, printed) = init(alloc, &mut lane, &[1])?;
+        assert_eq!(rt; status, 4);
+        assert_eq!(rt; printed.len(), 0);
+    }
+    Ok(())
+}
+
+#[test]
+fn least_statuses_beside_a_sink_fault(rt: HostRuntime) {
+    let rows = [
+        (Stop::Usage, 1),
+        (Stop::DepotFault, 4),
+        (Stop::TooLong, 7),
+        (Stop::Memory, 9),
+        (Stop::AlreadyStore, 9),
+        (Stop::SourceFault, 9),
+    ];
+    for (why, status) in rows {
+        assert_eq!(rt; why.status_beside_sink_fault(), status);
+    }
+}
+
+// Of 5,000 zeros 19 chunks are cut whatever comes, and 136 bytes wait.
+#[test]
+fn whole_lines_before_the_fault(rt: HostRuntime) -> Result<(), Fail> {
+    let alloc = rt.alloc();
+    let zeros = vec![in alloc; 0; 5_000]?;
+    let mut expected = String::new(alloc);
+    for _ in 0..19 {
+        expected.push_str(
+            "5341e6b2646979a70e57653007a1f310169421ec9bdd9f1a5648f75ade005af1 256\n",
+        )?;
+    }
+    expected.push_str("source fault\n")?;
+    let (status, printed) = run(alloc, &["names", "tiny"], &zeros, &[2], &[])?;
+    assert_eq!(rt; status, 12);
+    assert_eq!(rt; printed.as_slice(), expected.as_bytes());
     Ok(())
 }
 
@@ -230,7 +307,7 @@ fn stores_are_made_once(rt: HostRuntime) -> Result<(), Fail> {
         (11, "already a store\n"),
         (11, "already a store\n"),
     ] {
-        let (status, printed) = init(alloc, &mut lane)?;
+        let (status, printed) = init(alloc, &mut lane, &[])?;
         assert_eq!(rt; status, expected);
         assert_eq!(rt; printed.as_slice(), text.as_bytes());
         assert_eq!(rt;
@@ -240,7 +317,7 @@ fn stores_are_made_once(rt: HostRuntime) -> Result<(), Fail> {
     }
     for fails in [[1], [2]] {
         let mut lane = empty_lane(alloc, &fails)?;
-        let (status, printed) = init(alloc, &mut lane)?;
+        let (status, printed) = init(alloc, &mut lane, &[])?;
         assert_eq!(rt; status, 4);
         assert_eq!(rt; printed.as_slice(), b"depot fault\n".as_slice());
         assert!(rt; lane.depot.get("journal").is_none());

@@ -3,8 +3,10 @@ use Rattle.std.proofs.lemmas.List.{append-nil}
 use Rattle.ss_base.specs.Profile.{numbers_of}
 use Rattle.tttd_chunker.specs.Cut.{cut}
 use Rattle.tttd_chunker.proofs.CutLaws.{cut-nil}
+use Rattle.std.specs.Io.KnownBytes.{Appends}
 use Rattle.outside.specs.Bytes.{AppendsFront}
-use Rattle.store_run.proofs.AdvancesLaws.{advances-cut}
+use Rattle.store_run.specs.SoFar.{at_end}
+use Rattle.store_run.proofs.AdvancesLaws.{advances-cut, advances-end}
 use Rattle.store_run.proofs.ResultLaws.{nothing, on_unprinted}
 use Rattle.store_run.proofs.line_printer.LinePrinter.finish.Goals as goal
 
@@ -16,7 +18,7 @@ returns-in_err-print_rest-clause-unprinted g c =
     let n = numbers_of self.chunker.profile in
     let found = rw c.in_default.is at c.in_ok-chunk.ensures.found in
     let empty = nothing self.chunker.bytes (λ some. let is = found.1 some in cc) in
-    let whole = ap (λ (chunks : List (List ℕ)). self.waiting.items ++ maker.text self.lines chunks) (ap (cut n) (append-nil self.chunker.bytes ∙ empty) ∙ cut-nil n) in
+    let whole = ap (λ (chunks : List (List ℕ)). self.waiting.items ++ maker.text at_end self.lines chunks) (ap (cut n) (append-nil self.chunker.bytes ∙ empty) ∙ cut-nil n) in
     on_unprinted c.from_residual-in_err-print_rest.result
     (subst (AppendsFront (sink.written c.args.out.now) (sink.written c.print_rest.new.out)) (sym whole) c.in_err-print_rest.ensures.err)
 
@@ -28,7 +30,7 @@ returns-in_err-print_chunk-clause-unprinted g c =
     let n = numbers_of self.chunker.profile in
     let one = rw c.in-Some.is at c.in_ok-chunk.ensures.cut in
     let whole =
-    ap (λ (chunks : List (List ℕ)). self.waiting.items ++ maker.text self.lines chunks)
+    ap (λ (chunks : List (List ℕ)). self.waiting.items ++ maker.text at_end self.lines chunks)
     (ap (cut n) (append-nil self.chunker.bytes) ∙ one ∙ ap (λ (chunk : List ℕ). chunk ∷ []) (sym c.deref.ensures.value)) in
     on_unprinted c.from_residual-in_err-print_chunk.result
     (subst (AppendsFront (sink.written c.args.out.now) (sink.written c.print_chunk.new.out)) (sym whole) (c.in_err-print_chunk.ensures.err []))
@@ -41,8 +43,21 @@ returns-in_err-print_rest-2-clause-unprinted g c =
     let n = numbers_of self.chunker.profile in
     let one = rw c.in-Some.is at c.in_ok-chunk.ensures.cut in
     let whole =
-    ap (λ (chunks : List (List ℕ)). self.waiting.items ++ maker.text self.lines chunks)
+    ap (λ (chunks : List (List ℕ)). self.waiting.items ++ maker.text at_end self.lines chunks)
     (ap (cut n) (append-nil self.chunker.bytes) ∙ one ∙ ap (λ (chunk : List ℕ). chunk ∷ []) (sym c.deref.ensures.value)) in
     on_unprinted c.from_residual-in_err-print_rest-2.result
     (subst (AppendsFront (sink.written c.args.out.now) (sink.written c.print_rest-2.new.out)) (sym whole)
-    (advances-cut _ _ _ _ _ [] c.in_ok-print_chunk.ensures.ok c.in_err-print_rest-2.ensures.err))
+    (advances-cut _ _ _ _ _ [] (c.in_ok-print_chunk.ensures.ok at_end) c.in_err-print_rest-2.ensures.err))
+
+pub returns-clause-ok : goal.returns-clause-ok
+returns-clause-ok g c =
+    let maker = g.L.ChunkLines in
+    let sink = g.O.Sink in
+    let self = c.args.self.now in
+    let n = numbers_of self.chunker.profile in
+    let one = rw c.in-Some.is at c.in_ok-chunk.ensures.cut in
+    let whole =
+    ap (λ (chunks : List (List ℕ)). self.waiting.items ++ maker.text at_end self.lines chunks)
+    (ap (cut n) (append-nil self.chunker.bytes) ∙ one ∙ ap (λ (chunk : List ℕ). chunk ∷ []) (sym c.deref.ensures.value)) in
+    subst (Appends (sink.written c.args.out.now) (sink.written c.print_rest-2.new.out)) (sym whole)
+    (advances-end _ _ _ _ _ [] (c.in_ok-print_chunk.ensures.ok at_end) c.in_ok-print_rest-2.ensures.ok)

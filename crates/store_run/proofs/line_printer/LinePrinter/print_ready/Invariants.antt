@@ -1,6 +1,7 @@
-use Rattle.std.proofs.Common.{◌≤◌, length}
+use Rattle.std.proofs.Common.{◌≡◌, [], length}
 use Rattle.store_run.specs.Advances.{Advances}
 use Rattle.store_run.specs.LinePrinter.{still, Fits}
+use Rattle.store_run.specs.SoFar.{Stage, so_far}
 use Rattle.store_run.proofs.line_printer.LinePrinter.print_ready.Given as goal
 
 abbrev pub invariant-loop-chunk : goal.invariant-loop-chunk
@@ -9,8 +10,9 @@ invariant-loop-chunk g l =
     let sink = g.O.Sink in
     record {
       fits : Fits maker.most l.self;
-      way : Advances (sink.written l.initial.out) (sink.written l.out) (still maker.text l.initial.self) (still maker.text l.self);
-      later : sink.faults l.initial.out ≤ sink.faults l.out;
+      none_whole : maker.text so_far l.self.lines [] ≡ [];
+      way : (stage : Stage) → Advances (sink.written l.initial.out) (sink.written l.out) (still maker.text stage l.initial.self) (still maker.text stage l.self);
+      count : sink.faults l.out ≡ sink.faults l.initial.out;
     }
 
 abbrev pub decreases-loop-chunk : goal.decreases-loop-chunk
