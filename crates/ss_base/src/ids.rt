@@ -8,7 +8,7 @@ pub struct ContainerId {
 }
 
 /// A manifest: number `seq`, from 0, of those that a session committed.
-#[derive(Clone, Copy, Debug, PartialEq, Eq, PartialOrd, Ord, Hash)]
+#[derive(Clone, Copy, Debug, Default, PartialEq, Eq, PartialOrd, Ord, Hash)]
 pub struct ManifestId {
     pub session: u32,
     pub seq: u32,
@@ -22,7 +22,7 @@ pub struct Place {
 }
 
 /// A manifest that stands in the list of a hook. `stamp` is the number of its Commit entry.
-#[derive(Clone, Copy, Debug, PartialEq, Eq, PartialOrd, Ord, Hash)]
+#[derive(Clone, Copy, Debug, Default, PartialEq, Eq, PartialOrd, Ord, Hash)]
 pub struct Standing {
     pub id: ManifestId,
     pub stamp: u32,
