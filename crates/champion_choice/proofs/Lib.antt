@@ -1,0 +1,5 @@
+pub mod ScoreLaws
+pub mod ListLaws
+pub mod BestLaws
+pub mod ChoiceLaws
+pub mod TestLaws
