@@ -2,7 +2,6 @@
 ghost use Rattle.std.specs.Prelude.{◌≡◌, ◌≤◌};
 ghost use Rattle.ss_base.specs.Ids.{same_name, same_manifest, same_container, same_object, has_name, has_manifest, has_container, has_object, are_distinct};
 ghost use Rattle.ss_base.specs.Order.{is_container_before, is_before_first, are_ascending};
-ghost use Rattle.ss_base.specs.Hook.{is_hook};
 
 use ss_base::{ContainerId, ManifestId, Name, Object};
 
@@ -96,13 +95,4 @@ pub(crate) fn are_ascending(ids: &[ContainerId]) -> bool
         [] => true,
         [id, rest @ ..] => is_before_first(*id, rest) && are_ascending(rest),
     }
-}
-
-// Whether the first bits bits of the name are zero.
-pub(crate) fn is_hook(name: &Name, bits: u32) -> bool
-    requires { bits ≤ 32 }
-    ensures { result ≡ is_hook bits name.now }
-{
-    let [a, b, c, d, ..] = name.0;
-    u64::from(u32::from_be_bytes([a, b, c, d])) >> (32 - bits) == 0
 }

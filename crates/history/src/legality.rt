@@ -7,11 +7,11 @@ ghost use Rattle.history.specs.Sessions.{has};
 ghost use Rattle.history.specs.Legal.{is_open_to, are_hooks, lists_use, is_use_of_any, is_use, are_uses, are_texts, begins_unfinished, looks_unfinished, unfinished_sessions, unfinished_readings, is_within};
 
 use crate::choice_scan::{is_pending, pending_champions};
-use crate::ids::{are_ascending, are_distinct, has_container, is_hook, same_manifest};
+use crate::ids::{are_ascending, are_distinct, has_container, same_manifest};
 use crate::reading_scan::{is_reading, reading_begun};
 use crate::session_scan::{commits_of, is_begun_by, is_unfinished, session_begun};
 use crate::{Entry, Limits, Point, point_weight};
-use ss_base::{ContainerId, ManifestId, Name};
+use ss_base::{ContainerId, ManifestId, Name, is_hook};
 
 fn all_are_hooks(bits: u32, hooks: &[Name]) -> bool
     requires { bits ≤ 32 }

@@ -4,7 +4,7 @@
 mod distinct;
 mod sampling;
 
-pub use sampling::{hooks, is_hook};
+pub use sampling::hooks;
 
 #[cfg(test)]
 mod tests;

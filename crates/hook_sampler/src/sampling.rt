@@ -5,7 +5,7 @@ ghost use Rattle.ss_base.specs.Hook.{is_hook};
 ghost use Rattle.hook_sampler.specs.Hooks.{hooks};
 
 use crate::distinct::Distinct;
-use ss_base::{Memory, Name, Piece};
+use ss_base::{Memory, Name, Piece, is_hook};
 use std::alloc::Global;
 
 /// The hooks of these pieces: the distinct names whose first `bits` bits are zero, in the order in which they first
@@ -26,13 +26,4 @@ pub fn hooks(alloc: Global, pieces: &[Piece], bits: u32) -> Result<Vec<Name>, Me
         }
     }
     Ok(found.into_names())
-}
-
-/// Whether the first `bits` bits of the name are zero, of at most 32.
-pub fn is_hook(name: &Name, bits: u32) -> bool
-    requires { bits ≤ 32 }
-    ensures { result ≡ is_hook bits name.now }
-{
-    let [a, b, c, d, ..] = name.0;
-    u64::from(u32::from_be_bytes([a, b, c, d])) >> (32 - bits) == 0
 }

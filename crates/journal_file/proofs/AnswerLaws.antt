@@ -2,12 +2,12 @@
 use Rattle.std.proofs.Common.{◌≡◌, ℕ, List, [], ◌∷◌, ◌++◌, length, take, refl, sym, ap, subst, ◌∙◌, append_assoc, arith}
 use Rattle.std.specs.List.{AllByRecursion}
 use Rattle.std.proofs.lemmas.List.{length-append, append-nil, take_at}
-use Rattle.history.proofs.Entries.{same_entry, same_entries}
-use Rattle.history.proofs.LegalLaws.{weight-append}
+use Rattle.journal_entry.proofs.Entries.{same_entry, same_entries}
+use Rattle.journal_entry.proofs.WeightLaws.{weight-append}
 use Rattle.ss_base.specs.declared.profile.Profile.{Profile}
-use Rattle.history.specs.declared.entry.Entry.{Entry}
-use Rattle.history.specs.Bounds.{IsEntry, Begins}
-use Rattle.history.specs.EntryText.{entry_text, entries_text}
+use Rattle.journal_entry.specs.declared.entry.Entry.{Entry}
+use Rattle.journal_entry.specs.Bounds.{IsEntry, Begins}
+use Rattle.journal_entry.specs.EntryText.{entry_text, entries_text}
 use Rattle.journal_file.specs.Header.{header_text}
 use Rattle.journal_file.specs.Journal.{FitsJournal, IsJournal, HasNoHeader, IsBadAt}
 use Rattle.journal_file.proofs.FrontLaws.{same_body, same_header, same_profile, length-header}

@@ -3,8 +3,8 @@ use Rattle.std.proofs.Common.{◌≡◌, ◌≢◌, ℕ, ◌≤◌, List, [], �
 use Rattle.std.proofs.lemmas.List.{length-append, take-append-le, take-append-drop, take_at, drop_at}
 use Rattle.ss_base.specs.declared.profile.Profile.{Profile}
 use Rattle.ss_base.specs.declared.profile.Profile.TheVariants.{Tiny, Small, Large}
-use Rattle.history.specs.declared.entry.Entry.{Entry}
-use Rattle.history.specs.EntryText.{entries_text}
+use Rattle.journal_entry.specs.declared.entry.Entry.{Entry}
+use Rattle.journal_entry.specs.EntryText.{entries_text}
 use Rattle.journal_file.specs.declared.fault.JournalFault.{JournalFault}
 use Rattle.journal_file.specs.declared.fault.JournalFault.TheVariants.{Shelf, NotStore, BadEntry, Memory}
 use Rattle.journal_file.specs.Header.{header_text}

@@ -7,12 +7,12 @@ use Rattle.ss_base.specs.declared.ids.ContainerId.{ContainerId}
 use Rattle.ss_base.specs.declared.ids.ManifestId.{ManifestId}
 use Rattle.ss_base.specs.declared.object.Object.{Object}
 use Rattle.ss_base.specs.declared.object.Object.TheVariants.{Container, Manifest}
-use Rattle.history.specs.declared.entry.Entry.{Entry}
-use Rattle.history.specs.declared.entry.Seen.{Seen}
-use Rattle.history.specs.declared.entry.Point.{Point}
-use Rattle.history.specs.declared.entry.Point.TheVariants.{Begin, Choose, Commit, Finish, Abort, Delete, Look, Done, Reclaim, Stat}
-use Rattle.history.specs.EntryText.{number_text, digest_text, manifest_text, container_text, object_text, reply_text, seen_text, point_text, entry_text, entries_text}
-use Rattle.history.specs.Bounds.{IsDigest, FitsManifest, FitsContainer, FitsObject, PointFits, PointIsWithinBounds, IsEntry}
+use Rattle.journal_entry.specs.declared.entry.Entry.{Entry}
+use Rattle.journal_entry.specs.declared.entry.Seen.{Seen}
+use Rattle.journal_entry.specs.declared.entry.Point.{Point}
+use Rattle.journal_entry.specs.declared.entry.Point.TheVariants.{Begin, Choose, Commit, Finish, Abort, Delete, Look, Done, Reclaim, Stat}
+use Rattle.journal_entry.specs.EntryText.{number_text, digest_text, manifest_text, container_text, object_text, reply_text, seen_text, point_text, entry_text, entries_text}
+use Rattle.journal_entry.specs.Bounds.{IsDigest, FitsManifest, FitsContainer, FitsObject, PointFits, PointIsWithinBounds, IsEntry}
 
 length-number16 : (n : ℕ) → length (number_text w16 n) ≡ 2
 unfolding number_text

@@ -6,8 +6,8 @@ use Rattle.std.specs.declared.alloc.Global.{Global}
 use Rattle.std.proofs.lemmas.List.{length-append, append-nil}
 use Rattle.std.proofs.lemmas.Grind.{flat_map-append}
 use Rattle.ss_base.specs.declared.profile.Profile.{Profile}
-use Rattle.history.specs.declared.entry.Entry.{Entry}
-use Rattle.history.specs.EntryText.{entries_text}
+use Rattle.journal_entry.specs.declared.entry.Entry.{Entry}
+use Rattle.journal_entry.specs.EntryText.{entries_text}
 use Rattle.outside.specs.Shelf.{Objects, Given, bytes_of, part_of, read_of, one_more, next_read}
 use Rattle.outside.proofs.ShelfLaws.{part_of-rest, part_of-end}
 use Rattle.journal_file.specs.declared.fault.JournalFault.{JournalFault}

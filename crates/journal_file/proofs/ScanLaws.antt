@@ -1,10 +1,10 @@
 -- Reading entries off the front of bytes.
 use Rattle.std.proofs.Common.{◌≡◌, ◌≢◌, ℕ, ◌≤◌, List, [], ◌∷◌, ◌++◌, length, drop, sym, ap, subst, ◌∙◌, append_assoc, arith}
 use Rattle.std.proofs.lemmas.List.{length-take-le, take-append-le, take-append-drop}
-use Rattle.history.proofs.Entries.{same_entry}
-use Rattle.history.specs.declared.entry.Entry.{Entry}
-use Rattle.history.specs.Bounds.{Begins}
-use Rattle.history.specs.EntryText.{entry_text, entries_text}
+use Rattle.journal_entry.proofs.Entries.{same_entry}
+use Rattle.journal_entry.specs.declared.entry.Entry.{Entry}
+use Rattle.journal_entry.specs.Bounds.{Begins}
+use Rattle.journal_entry.specs.EntryText.{entry_text, entries_text}
 use Rattle.journal_file.specs.Journal.{FitsJournal}
 use Rattle.journal_file.specs.Scan.{longest_entry, AreFound, NoneBegins, NoneWillBegin, IsBadFor, IsBodyFault}
 use Rattle.journal_file.specs.declared.fault.JournalFault.{JournalFault}

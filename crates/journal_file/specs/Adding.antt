@@ -1,8 +1,8 @@
 -- What is added to a journal (this project's own).
 use Rattle.std.specs.Prelude.{List, [], ◌∷◌, Option}
 use Rattle.outside.specs.Shelf.{Objects, Written, with_added, write_of, one_more}
-use Rattle.history.specs.declared.entry.Entry.{Entry}
-use Rattle.history.specs.EntryText.{entries_text}
+use Rattle.journal_entry.specs.declared.entry.Entry.{Entry}
+use Rattle.journal_entry.specs.EntryText.{entries_text}
 use Rattle.journal_file.specs.Header.{journal_name}
 
 -- the told objects with the texts of these entries behind the journal; no entries change nothing

@@ -2,10 +2,10 @@
 use Rattle.std.specs.Prelude.{◌≡◌, ◌≢◌, ℕ, ◌^◌, ◌≤◌, List, [], ◌∷◌, ◌++◌, length}
 use Rattle.std.specs.List.{AllByRecursion}
 use Rattle.ss_base.specs.declared.profile.Profile.{Profile}
-use Rattle.history.specs.declared.entry.Entry.{Entry}
-use Rattle.history.specs.Bounds.{IsEntry, Begins}
-use Rattle.history.specs.EntryText.{entries_text}
-use Rattle.history.specs.Legal.{weight}
+use Rattle.journal_entry.specs.declared.entry.Entry.{Entry}
+use Rattle.journal_entry.specs.Bounds.{IsEntry, Begins}
+use Rattle.journal_entry.specs.EntryText.{entries_text}
+use Rattle.journal_entry.specs.Weight.{weight}
 use Rattle.journal_file.specs.Header.{header_text}
 
 -- the header, and the texts of the entries

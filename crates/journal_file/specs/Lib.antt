@@ -1,7 +1,7 @@
 pub use Rattle.outside.specs.Faults
 pub use Rattle.outside.specs.Shelf
-pub use Rattle.history.specs.Bounds
-pub use Rattle.history.specs.EntryText
+pub use Rattle.journal_entry.specs.Bounds
+pub use Rattle.journal_entry.specs.EntryText
 pub mod Adding
 pub mod Header
 pub mod Journal

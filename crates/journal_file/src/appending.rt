@@ -2,14 +2,14 @@
 ghost use Rattle.std.specs.Prelude.{◌≡◌, ◌≤◌, [], All, IfOk, IsOk, OnOk, MatchResult};
 ghost use Rattle.std.specs.List.{AllByRecursion};
 ghost use Rattle.outside.specs.Shelf.{AppendLeaves};
-ghost use Rattle.history.specs.Bounds.{IsEntry, IsWithinBounds};
-ghost use Rattle.history.specs.EntryText.{entries_text};
+ghost use Rattle.journal_entry.specs.Bounds.{IsEntry, IsWithinBounds};
+ghost use Rattle.journal_entry.specs.EntryText.{entries_text};
 ghost use Rattle.journal_file.specs.Cause.{AppendCount};
 ghost use Rattle.journal_file.specs.Header.{journal_name};
 ghost use Rattle.journal_file.specs.Adding.{with_entries, with_write};
 
 use crate::AppendFault;
-use history::{Entry, encode_entry};
+use journal_entry::{Entry, encode_entry};
 use outside::Shelf;
 use ss_base::Memory;
 use std::alloc::Global;

@@ -1,13 +1,13 @@
 // The entries that were found in a journal so far.
 ghost use Rattle.std.specs.Prelude.{◌≡◌, ◌≤◌, ◌<◌, ℕ, [], ◌∷◌, ◌++◌, length, IfOk, IfErr, IfSome, IfNone, OnOk};
-ghost use Rattle.history.specs.Bounds.{IsEntry, Begins, PointIsWithinBounds};
-ghost use Rattle.history.specs.EntryText.{entry_text, entries_text};
-ghost use Rattle.history.specs.Legal.{point_weight};
+ghost use Rattle.journal_entry.specs.Bounds.{IsEntry, Begins, PointIsWithinBounds};
+ghost use Rattle.journal_entry.specs.EntryText.{entry_text, entries_text};
+ghost use Rattle.journal_entry.specs.Weight.{point_weight};
 ghost use Rattle.journal_file.specs.Journal.{FitsJournal};
 ghost use Rattle.journal_file.specs.Scan.{longest_entry, AreFound, NoneBegins, NoneWillBegin, IsBadFor, IsBodyFault};
 
 use crate::JournalFault;
-use history::{Entry, Point, decode_entry};
+use journal_entry::{Entry, Point, decode_entry, point_weight};
 use std::alloc::Global;
 
 const MAX_ENTRIES: usize = 1 << 20;
@@ -47,17 +47,13 @@ impl Found {
     }
 }
 
-#[tactic(auto, unfolding(history::specs::Legal::point_weight))]
+#[tactic(auto, unfolding(journal_entry::specs::Weight::point_weight))]
 fn weight_of(point: &Point) -> u32
     requires { PointIsWithinBounds point.now }
     ensures weight { result ≡ point_weight point.now }
     ensures most { result ≤ 4096 }
 {
-    match point {
-        Point::Choose { hooks, .. } => hooks.as_slice().len() as u32,
-        Point::Commit { uses, .. } => uses.as_slice().len() as u32,
-        _ => 0,
-    }
+    point_weight(point) as u32
 }
 
 /// The entry that begins the bytes, and the length of its text; `None` where it may still come whole. `place` is

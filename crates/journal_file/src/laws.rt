@@ -1,7 +1,7 @@
 // Laws of what bytes are.
 ghost use Rattle.std.specs.Prelude.{◌≡◌, ℕ, List};
 ghost use Rattle.ss_base.specs.declared.profile.Profile.{Profile};
-ghost use Rattle.history.specs.declared.entry.Entry.{Entry};
+ghost use Rattle.journal_entry.specs.declared.entry.Entry.{Entry};
 ghost use Rattle.journal_file.specs.Journal.{IsJournal, HasNoHeader, IsBadAt};
 
 /// Bytes are one journal, or no store, or bad at one place: what [`crate::read`] answers of them, where it wants

@@ -7,7 +7,7 @@ ghost use Rattle.journal_file.specs.Answer.{IsAnswer, HasRead};
 
 use crate::JournalFault;
 use crate::scan::Scan;
-use history::Entry;
+use journal_entry::Entry;
 use outside::Shelf;
 use ss_base::Profile;
 use std::alloc::Global;

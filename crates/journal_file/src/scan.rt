@@ -8,7 +8,7 @@ ghost use Rattle.journal_file.specs.Front.{IsFront, scan_text};
 use crate::JournalFault;
 use crate::found::{Found, take_entries};
 use crate::header::split_header;
-use history::Entry;
+use journal_entry::Entry;
 use ss_base::Profile;
 use std::alloc::Global;
 
@@ -24,7 +24,7 @@ pub(crate) struct Scan {
 }
 
 impl Scan {
-    #[tactic(auto, using(history::proofs::LegalLaws::weight_none))]
+    #[tactic(auto, using(journal_entry::proofs::WeightLaws::weight_none))]
     pub(crate) fn new(alloc: Global) -> Scan
         ensures front { IsFront result }
         ensures text { scan_text result ≡ [] }

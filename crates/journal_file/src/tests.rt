@@ -1,9 +1,9 @@
 // Journals on shelves in memory, whole, cut short, and in small pieces.
 ghost use Rattle.std.specs.Prelude.{◌≡◌, ◌≤◌, None, All, IfOk};
-ghost use Rattle.history.specs.Bounds.{IsWithinBounds, PointIsWithinBounds};
+ghost use Rattle.journal_entry.specs.Bounds.{IsWithinBounds, PointIsWithinBounds};
 
 use crate::{AppendFault, CreateFault, JournalFault, append, create, one_answer, read};
-use history::{Entry, Items, Point};
+use journal_entry::{Entry, Items, Point};
 use outside::{MemShelf, Shelf, Trouble};
 use ss_base::{ContainerId, ManifestId, Memory, Name, Profile, StreamName};
 use std::alloc::{AllocError, Global};

@@ -4,6 +4,7 @@
 
 mod ended;
 mod fields;
+mod hook;
 mod ids;
 mod limits;
 mod memory;
@@ -15,6 +16,7 @@ mod stream_name;
 
 pub use ended::Ended;
 pub use fields::{read_name, read_number, write_name, write_number};
+pub use hook::is_hook;
 pub use ids::{ContainerId, ManifestId, Place, Standing};
 pub use limits::{MAX_CHAMPIONS, MAX_CHUNK_LEN, MAX_CHUNKS, PIECE_LEN};
 pub use memory::Memory;

@@ -1,7 +1,7 @@
 use Rattle.std.proofs.Common.{◌≡◌, take}
 use Rattle.std.specs.List.{AllByRecursion}
-use Rattle.history.specs.Bounds.{IsEntry}
-use Rattle.history.specs.EntryText.{entries_text}
+use Rattle.journal_entry.specs.Bounds.{IsEntry}
+use Rattle.journal_entry.specs.EntryText.{entries_text}
 use Rattle.journal_file.proofs.appending.text_of.Given as goal
 
 abbrev pub invariant-loop-entry : goal.invariant-loop-entry

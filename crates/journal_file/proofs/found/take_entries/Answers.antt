@@ -1,5 +1,5 @@
 use Rattle.std.proofs.lemmas.Result.{err_from_is_err_and}
-use Rattle.history.specs.EntryText.{entries_text}
+use Rattle.journal_entry.specs.EntryText.{entries_text}
 use Rattle.std.proofs.Common.{◌++◌}
 use Rattle.journal_file.proofs.ScanLaws.{full_is_bad}
 use Rattle.journal_file.proofs.found.take_entries.Goals as goal

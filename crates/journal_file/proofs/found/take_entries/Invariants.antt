@@ -1,5 +1,5 @@
 use Rattle.std.proofs.Common.{◌≡◌, ◌++◌, length}
-use Rattle.history.specs.EntryText.{entries_text}
+use Rattle.journal_entry.specs.EntryText.{entries_text}
 use Rattle.journal_file.specs.Scan.{AreFound}
 use Rattle.journal_file.proofs.found.take_entries.Given as goal
 

@@ -6,7 +6,7 @@ use Rattle.journal_file.proofs.ReadLaws.{length-front, more_so_far, end_told, en
 use Rattle.std.specs.Prelude.{Vec}
 use Rattle.std.specs.declared.alloc.Global.{Global}
 use Rattle.ss_base.specs.declared.profile.Profile.{Profile}
-use Rattle.history.specs.declared.entry.Entry.{Entry}
+use Rattle.journal_entry.specs.declared.entry.Entry.{Entry}
 use Rattle.outside.proofs.FaultLaws.{HasCause-after}
 use Rattle.journal_file.specs.Cause.{journal_fault}
 use Rattle.journal_file.proofs.CountLaws.{read_count}

@@ -1,5 +1,5 @@
 use Rattle.std.proofs.Common.{◌+◌, List, arith, refl, inl, inr, subst, sym}
-use Rattle.history.specs.declared.entry.Entry.{Entry}
+use Rattle.journal_entry.specs.declared.entry.Entry.{Entry}
 use Rattle.journal_file.specs.Scan.{AreFound}
 use Rattle.journal_file.proofs.Lengths.{length-entry, length-entries}
 use Rattle.journal_file.proofs.FoundLaws.{found_more, full}

@@ -1,7 +1,7 @@
 use Rattle.std.proofs.Common.{◌≡◌, ◌++◌, arith}
 use Rattle.std.proofs.lemmas.Grind.{common_steps}
 use Rattle.std.proofs.lemmas.Result.{err_from_is_err_and}
-use Rattle.history.specs.EntryText.{entries_text}
+use Rattle.journal_entry.specs.EntryText.{entries_text}
 use Rattle.journal_file.specs.Front.{scan_text}
 use Rattle.journal_file.proofs.FrontLaws.{front_opens, front_goes_on, fault_later}
 use Rattle.journal_file.proofs.scan.Scan.add.Goals as goal
