@@ -5,7 +5,10 @@ ghost use Rattle.ss_base.specs.declared.ids.ContainerId.{ContainerId};
 ghost use Rattle.container_file.specs.Chunk.{Chunk, IsChunk, the_chunk};
 ghost use Rattle.container_file.specs.Text.{header, record_text, HasNoRecord};
 
-use ss_base::{ContainerId, MAX_CHUNK_LEN, Memory, Piece, read_fields, read_name, read_number, write_name, write_number};
+use ss_base::{
+    ContainerId, MAX_CHUNK_LEN, Memory, Piece, read_fields, read_name, read_number, write_name,
+    write_number,
+};
 
 const MAGIC: [u8; 4] = *b"SSC1";
 

@@ -2,8 +2,8 @@
 use Rattle.std.specs.Prelude.{ℕ, not, List, [], ◌∷◌, map, filter}
 use Rattle.ss_base.specs.declared.name.Name.{Name}
 use Rattle.ss_base.specs.declared.name.Piece.{Piece}
-pub use Rattle.ss_base.specs.Ids.{same_name}
-pub use Rattle.ss_base.specs.Hook.{is_hook}
+use Rattle.ss_base.specs.Ids.{same_name}
+use Rattle.ss_base.specs.Hook.{is_hook}
 
 -- the names without repetition: the first, and those of the others without it
 unfoldable pub distinct : List Name → List Name

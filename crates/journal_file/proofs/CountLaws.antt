@@ -1,5 +1,5 @@
 -- What the shelf's count of faults tells of a call on the journal.
-use Rattle.std.proofs.Common.{◌≡◌, ℕ, Err, refl, subst}
+use Rattle.std.proofs.Common.{ℕ, Err, refl}
 use Rattle.outside.specs.Faults.{HasCause}
 use Rattle.outside.specs.declared.trouble.Trouble.{Trouble}
 use Rattle.outside.specs.declared.trouble.Trouble.TheVariants.{Fault, Memory}

@@ -1,11 +1,11 @@
 -- One more entry of a journal.
-use Rattle.std.proofs.Common.{◌≡◌, ℕ, ◌+◌, ◌-◌, ◌^◌, ◌<◌, ◌≤◌, ◌⊎◌, List, [], ◌∷◌, ◌++◌, length, inl, inr, refl, sym, ap, ◌∙◌, arith}
+use Rattle.std.proofs.Common.{◌≡◌, ℕ, ◌+◌, ◌-◌, ◌^◌, ◌<◌, ◌≤◌, ◌⊎◌, List, [], ◌∷◌, ◌++◌, length, inl, inr, ap, ◌∙◌, arith}
 use Rattle.std.proofs.lemmas.List.{length-append, append-nil}
 use Rattle.std.proofs.lemmas.List.Concat.{flat_map-append}
 use Rattle.journal_entry.specs.declared.entry.Entry.{Entry}
 use Rattle.journal_entry.specs.Bounds.{IsEntry}
 use Rattle.journal_entry.specs.EntryText.{entry_text, entries_text}
-use Rattle.journal_entry.specs.Weight.{point_weight, weight}
+use Rattle.journal_entry.specs.Weight.{point_weight}
 use Rattle.journal_entry.proofs.WeightLaws.{weight_push}
 use Rattle.journal_file.specs.Journal.{FitsJournal}
 use Rattle.journal_file.specs.Scan.{AreFound}

@@ -1,5 +1,5 @@
 -- The origins are the one list that gives each piece its origin, and the fresh marks are those of its fresh items.
-use Rattle.std.proofs.Common.{◌≡◌, ℕ, zero, suc, ◌+◌, Bool, true, false, List, [], ◌∷◌, ◌++◌, map, length, take, Option, Some, None, is_some, not, ◌&&◌, slice_get, refl, sym, ap, ◌∙◌, subst, arith, append_assoc, append-nil}
+use Rattle.std.proofs.Common.{◌≡◌, ℕ, suc, List, [], ◌∷◌, ◌++◌, map, length, take, Option, Some, None, is_some, not, ◌&&◌, slice_get, refl, sym, ap, ◌∙◌, subst, arith, append_assoc, append-nil}
 use Rattle.ss_base.specs.declared.name.Piece.{Piece}
 use Rattle.ss_base.specs.Origins.{first_place, first_in, is_fresh, fresh_behind, fresh_marks}
 use Rattle.ss_base.proofs.OriginLaws.{first_place-none, first_place-some, first_in-none, first_in-some}
@@ -25,12 +25,12 @@ behind-is earlier [] lists (o ∷ os) are = let count = are.count in absurd (cc)
 behind-is earlier (p ∷ ps) lists [] are = let count = are.count in absurd (cc)
 behind-is earlier (p ∷ ps) lists (o ∷ os) are =
     let first : o ≡ origin earlier lists p =
-      origin-is earlier lists p o (subst (λ before. IsOrigin before lists p o) (append-nil earlier) (are.each 0 p o refl refl)) in
+    origin-is earlier lists p o (subst (λ before. IsOrigin before lists p o) (append-nil earlier) (are.each 0 p o refl refl)) in
     let rest : os ≡ origins_behind (earlier ++ p ∷ []) ps lists =
-      behind-is (earlier ++ p ∷ []) ps lists os (record {
-        count = (let count = are.count in omega (arith, count));
-        each = λ k q r here there. subst (λ before. IsOrigin before lists q r) (sym (append_assoc earlier (p ∷ []) (take k ps))) (are.each (suc k) q r here there);
-      }) in
+    behind-is (earlier ++ p ∷ []) ps lists os (record {
+      count = (let count = are.count in omega (arith, count));
+      each = λ k q r here there. subst (λ before. IsOrigin before lists q r) (sym (append_assoc earlier (p ∷ []) (take k ps))) (are.each (suc k) q r here there);
+    }) in
     ap (λ x. x ∷ os) first ∙ ap (λ xs. origin earlier lists p ∷ xs) rest
 
 -- no other list gives each piece its origin

@@ -1,7 +1,6 @@
 -- Laws of containers.
-use Rattle.std.proofs.Common.{◌≡◌, Bool, true, ◌==◌, ◌&&◌, arith, List, map, subst, sym, ap, ◌∙◌, Contains, IsPermutation, IsSorted}
-use Rattle.std.specs.Cmp.{IsTotalOrder, IsEquivalence, then_total, on_total, nat_cmp_total, and_equiv, on_equiv, nat_eq_equiv, unsigned_ties, tied_then}
-use Rattle.std.specs.Ordering.{eq_by_cmp, nat_cmp}
+use Rattle.std.proofs.Common.{◌≡◌, List, map, subst, sym, Contains, IsPermutation, IsSorted}
+use Rattle.std.specs.Cmp.{IsTotalOrder, IsEquivalence, then_total, on_total, nat_cmp_total, and_equiv, on_equiv, nat_eq_equiv}
 use Rattle.std.specs.List.{dedup}
 use Rattle.std.proofs.lemmas.List.Kept.{IsStrictlySortedBy-dedup, Contains-dedup, Contains-from_dedup}
 use Rattle.std.proofs.lemmas.List.Sorted.{Contains-permutation, IsPermutation-sym}

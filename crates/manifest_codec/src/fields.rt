@@ -4,7 +4,10 @@ ghost use Rattle.std.specs.Int.{w32, to_be_bytes};
 ghost use Rattle.manifest_codec.specs.PiecesPart.{piece_text};
 ghost use Rattle.manifest_codec.specs.Text.{place_text, IsPlace};
 
-use ss_base::{ContainerId, Memory, Piece, Place, read_fields, read_name, read_number, write_name, write_number};
+use ss_base::{
+    ContainerId, Memory, Piece, Place, read_fields, read_name, read_number, write_name,
+    write_number,
+};
 
 /// The piece that has this text.
 pub fn read_piece(text: &[u8]) -> Piece

@@ -1,6 +1,5 @@
 -- What is counted of the objects of a store, and which of them nothing needs (this project's own).
-use Rattle.std.specs.Prelude.{ℕ, ◌+◌, ◌==◌, Bool, not, ◌&&◌, cond, List, [], ◌∷◌, ◌++◌, map, filter, Option, None, Some, unwrap_or}
-use Rattle.std.specs.List.{range_with_len}
+use Rattle.std.specs.Prelude.{ℕ, ◌==◌, Bool, not, ◌&&◌, cond, List, map, filter, Option, unwrap_or}
 use Rattle.std.specs.FinMap as map
 use Rattle.std.specs.FinSet as set
 use Rattle.ss_base.specs.KnownObjects.{container_at, manifest_at, known_objects}

@@ -8,4 +8,3 @@ pub mod IdLaws
 pub mod OrderLaws
 pub mod OriginLaws
 pub mod StandingLaws
-

@@ -1,8 +1,7 @@
 -- First places as functions are those that the relations speak of, and no others.
-use Rattle.std.proofs.Common.{◌≡◌, ◌≢◌, ◌⊎◌, ℕ, zero, suc, ◌<◌, Bool, true, false, List, [], ◌∷◌, ◌++◌, take, Option, Some, None, is_some, slice_get, refl, sym, ap, ◌∙◌, inl, inr, arith, not, ◌&&◌, if◌then◌else◌}
+use Rattle.std.proofs.Common.{◌≡◌, ℕ, zero, suc, List, [], ◌∷◌, Some, None, refl, sym, ap, ◌∙◌, inl, inr, arith}
 use Rattle.std.specs.Option.{option_map}
 use Rattle.ss_base.specs.declared.name.Piece.{Piece}
-use Rattle.ss_base.specs.Ids.{same_piece}
 use Rattle.ss_base.specs.Origins.{first_place, first_of, first_in, LacksPiece, IsFirstPlace, AllLackPiece, IsFirstIn}
 use Rattle.ss_base.proofs.IdLaws.{same_piece-cases}
 

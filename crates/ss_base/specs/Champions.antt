@@ -5,7 +5,7 @@ use Rattle.std.specs.List.{list_any, list_all, flat_map}
 use Rattle.std.specs.Option.{option_map_or}
 use Rattle.ss_base.specs.declared.ids.ManifestId.{ManifestId}
 use Rattle.ss_base.specs.declared.ids.Standing.{Standing}
-pub use Rattle.ss_base.specs.Ids.{same_manifest}
+use Rattle.ss_base.specs.Ids.{same_manifest}
 
 -- whether the manifest stands in the list
 unfoldable pub stands_in : ManifestId → List Standing → Bool

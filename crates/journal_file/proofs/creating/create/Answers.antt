@@ -1,8 +1,5 @@
-use Rattle.std.proofs.Common.{◌≡◌, ◌∙◌, subst}
+use Rattle.std.proofs.Common.{◌∙◌}
 use Rattle.std.proofs.lemmas.Result.{err_from_is_err_and}
-use Rattle.journal_file.specs.Cause.{CreateCount, create_fault}
-use Rattle.std.specs.Prelude.{Err}
-use Rattle.outside.specs.Faults.{HasCause}
 use Rattle.outside.proofs.FaultLaws.{HasCause-after}
 use Rattle.journal_file.proofs.CountLaws.{create_count}
 use Rattle.journal_file.proofs.creating.create.Goals as goal
