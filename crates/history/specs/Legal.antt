@@ -16,7 +16,7 @@ use Rattle.history.specs.declared.rules.Limits.{Limits}
 use Rattle.history.specs.declared.rules.Rules.{Rules}
 use Rattle.journal_entry.specs.declared.entry.Point.{Point}
 use Rattle.journal_entry.specs.declared.entry.Point.TheVariants.{Begin, Choose, Commit, Finish, Abort, Delete, Look, Done, Reclaim, Stat}
-use Rattle.journal_entry.specs.Bounds.{are_counts}
+use Rattle.journal_entry.specs.Bounds.{most_hooks, most_uses, most_objects, are_counts}
 use Rattle.journal_entry.specs.Weight.{weight}
 use Rattle.history.specs.Sessions.{session_begun, session_count, reading_begun, reading_count, is_unfinished, is_reading, is_held, retained, is_begun_by, is_looked_by, commits_of, is_pending, pending_champions, has}
 use Rattle.history.specs.StandingList.{champions_for}
@@ -53,7 +53,7 @@ reply_to_look name past = option_map (λ session. record { reader = reading_coun
 
 -- distinct hooks, at most 4,096, each with so many zero bits
 unfoldable pub are_hooks : ℕ → List Name → Bool
-are_hooks bits hooks = are_distinct hooks && (nat_le (length hooks) 4096 && list_all (is_hook bits) hooks)
+are_hooks bits hooks = are_distinct hooks && (nat_le (length hooks) most_hooks && list_all (is_hook bits) hooks)
 
 -- whether an entry commits the manifest with chunks in the container
 unfoldable pub lists_use : ManifestId → ContainerId → Point → Bool
@@ -73,7 +73,7 @@ is_use session champions past id =
 -- ascending, at most 4,096, and each is one that the session may use
 unfoldable pub are_uses : ℕ → List Entry → List ContainerId → Bool
 are_uses session past uses =
-    are_ascending uses && (nat_le (length uses) 4096 && list_all (is_use session (pending_champions session past) past) uses)
+    are_ascending uses && (nat_le (length uses) most_uses && list_all (is_use session (pending_champions session past) past) uses)
 
 -- the session's commits, or, where a choice is pending, that number or one more
 unfoldable pub are_texts : ℕ → ℕ → List Entry → Bool
@@ -106,7 +106,7 @@ is_allowed rules past author (Abort session containers texts) =
 is_allowed rules past author (Delete name session) = option_eq (λ a b. a == b) session (retained name past)
 is_allowed rules past author (Look name seen) = option_eq same_seen seen (reply_to_look name past)
 is_allowed rules past author (Done reader) = is_reading reader past && is_looked_by author reader past
-is_allowed rules past author (Reclaim objects) = pointwise same_object objects (take 16 (erasable past))
+is_allowed rules past author (Reclaim objects) = pointwise same_object objects (take most_objects (erasable past))
 is_allowed rules past author (Stat given) = same_totals given (totals past)
 
 -- ---- limits

@@ -19,7 +19,6 @@ use Rattle.history.specs.Sessions.{pending_champions}
 use Rattle.history.specs.StandingList.{standing, champions_for}
 use Rattle.history.specs.TotalsOf.{objects_named}
 use Rattle.history.specs.Legal.{are_hooks, is_use, are_uses, is_allowed}
-use Rattle.journal_entry.proofs.Entries.{AreCounts-from}
 use Rattle.history.proofs.LegalLaws.{few_objects}
 use Rattle.history_laws.proofs.Allowed.{choose_says, commit_says}
 use Rattle.history_laws.proofs.ChampionLaws.{round, no_rounds}
@@ -52,6 +51,6 @@ allowed_bounds rules past author (Choose s hooks champions) few allowed =
     (few_hooks rules.bits hooks said.valid, omega (arith, count, few, ap length said.greedy))
 allowed_bounds rules past author (Commit id content text chunks bytes fresh fresh_bytes uses) few allowed =
     let said = commit_says rules past author id content text chunks bytes fresh fresh_bytes uses allowed in
-    (AreCounts-from chunks bytes fresh fresh_bytes said.counted, few_uses id.session past uses said.may_use)
+    (said.counted, few_uses id.session past uses said.may_use)
 allowed_bounds rules past author (Reclaim objects) few allowed = few_objects rules past author (Reclaim objects) allowed
 allowed_bounds rules past author _ few allowed = tt

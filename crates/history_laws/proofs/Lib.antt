@@ -7,3 +7,4 @@ pub mod OnceLaws
 pub mod NeedLaws
 pub mod ObjectLaws
 pub mod BoundLaws
+mod OwnEndLaws

@@ -105,7 +105,7 @@ never_wanted rules newer older (Manifest id) legal closed unwanted = never_live 
 
 -- a Reclaim names what can be erased
 pub reclaims_erasable : (rules : Rules) (past : List Entry) (author : ℕ) (object : Object) (point : Point) → is_allowed rules past author point ≡ true → reclaims object point ≡ true → In object (erasable past)
-unfolding is_allowed reclaims has_object
+unfolding is_allowed reclaims
 reclaims_erasable rules past author object (Reclaim objects) allowed named =
     let found = any_in (same_object object) objects named in
     let same : object ≡ found.0 = same_object-true object found.0 found.2 in

@@ -93,6 +93,7 @@ fn histories_that_the_laws_speak_of(rt: HostRuntime) -> Result<(), Fail> {
     legal_prefix();
     entries_within_bounds();
     one_retained();
+    own_end_is_least();
     what_stands();
     never_live_again();
     never_needed_again();

@@ -16,7 +16,7 @@ use Rattle.journal_entry.specs.declared.entry.Totals.{Totals}
 use Rattle.journal_entry.specs.declared.entry.Point.{Point}
 use Rattle.journal_entry.specs.declared.entry.Point.TheVariants.{Begin, Choose, Commit, Finish, Abort, Delete, Look, Done, Reclaim, Stat}
 use Rattle.journal_entry.specs.EntryText.{number_text, digest_text, stream_name_text, manifest_text, container_text, object_text, seen_text, totals_text, point_text, entry_text, entries_text}
-use Rattle.journal_entry.specs.Bounds.{AreCounts, are_counts, PointIsWithinBounds, IsDigest, FitsManifest, FitsContainer, FitsObject, FitsSeen, FitTotals, PointFits, IsEntry, Begins}
+use Rattle.journal_entry.specs.Bounds.{are_counts, PointIsWithinBounds, IsDigest, FitsManifest, FitsContainer, FitsObject, FitsSeen, FitTotals, PointFits, IsEntry, Begins}
 use Rattle.journal_entry.specs.Reading.{Reader, made, byte_at, is_name, digest_at, stream_name_at, manifest_at, container_at, object_at, seen_at, totals_at, begin_at, choose_at, commit_at, finish_at, abort_at, delete_at, look_at, done_at, reclaim_at, stat_at, fields_at, point_at, entry_at}
 use Rattle.journal_entry.proofs.Names.{is_name-true, IsStreamName-from}
 use Rattle.journal_entry.proofs.Fields.{IsBytes, IsBytes-rest, Takes, Takes-byte, Reads, bind_some, reads_as, ◌⊗◌, reads_made, reads_passing, reads_sized, a_byte, number16, number32, number64, some_bytes, a_list, a_reply}
@@ -91,31 +91,6 @@ some_totals =
 
 -- ---- points
 
-are_counts-true : (chunks bytes fresh fresh_bytes : ℕ) → AreCounts chunks bytes fresh fresh_bytes → are_counts chunks bytes fresh fresh_bytes ≡ true
-are_counts-true chunks bytes fresh fresh_bytes are =
-    and_from _ _ (le-leb _ _ are.some) (and_from _ _ (le-leb _ _ are.segment) (and_from _ _ (le-leb _ _ are.long)
-    (and_from _ _ (le-leb _ _ are.short) (and_from _ _ (le-leb _ _ are.fresh_chunks) (le-leb _ _ are.fresh_part)))))
-
-pub AreCounts-from : (chunks bytes fresh fresh_bytes : ℕ) → are_counts chunks bytes fresh fresh_bytes ≡ true → AreCounts chunks bytes fresh fresh_bytes
-AreCounts-from chunks bytes fresh fresh_bytes e =
-    let fifth = leb fresh chunks && leb fresh_bytes bytes in
-    let fourth = leb bytes 45875200 && fifth in
-    let third = leb chunks bytes && fourth in
-    let second = leb chunks 4096 && third in
-    let a = and_parts (leb 1 chunks) second e in
-    let b = and_parts (leb chunks 4096) third a.1 in
-    let c = and_parts (leb chunks bytes) fourth b.1 in
-    let d = and_parts (leb bytes 45875200) fifth c.1 in
-    let f = and_parts (leb fresh chunks) (leb fresh_bytes bytes) d.1 in
-    record {
-      some = leb-true _ _ a.0;
-      segment = leb-true _ _ b.0;
-      long = leb-true _ _ c.0;
-      short = leb-true _ _ d.0;
-      fresh_chunks = leb-true _ _ f.0;
-      fresh_part = leb-true _ _ f.1;
-    }
-
 abbrev IsPoint : Point → Type 0
 IsPoint p = PointFits p × PointIsWithinBounds p
 
@@ -147,7 +122,7 @@ fields_take (suc (suc (suc zero))) =
     (a_manifest ⊗ a_digest ⊗ a_digest ⊗ number32 ⊗ number32 ⊗ number32 ⊗ number32 ⊗ a_list number16 4096 a_container))
     (λ (a : ((((((ManifestId × Name) × Name) × ℕ) × ℕ) × ℕ) × ℕ) × List ContainerId). Commit a.0.0.0.0.0.0.0 a.0.0.0.0.0.0.1 a.0.0.0.0.0.1 a.0.0.0.0.1 a.0.0.0.1 a.0.0.1 a.0.1 a.1) 3 (λ _. refl)
     (λ a f. let g = f.0 in
-    ((g.0.0.0.0.0.0.0, g.0.0.0.0.0.0.1, g.0.0.0.0.0.1, g.0.0.0.0.1, g.0.0.0.1, g.0.0.1, g.0.1, g.1.1), (AreCounts-from _ _ _ _ f.1, leb-true _ _ g.1.0.1)))
+    ((g.0.0.0.0.0.0.0, g.0.0.0.0.0.0.1, g.0.0.0.0.0.1, g.0.0.0.0.1, g.0.0.0.1, g.0.0.1, g.0.1, g.1.1), (f.1, leb-true _ _ g.1.0.1)))
 fields_take (suc (suc (suc (suc zero)))) =
     kind_takes (number32 ⊗ number32) (λ (a : ℕ × ℕ). Finish a.0 a.1) 4 (λ _. refl) (λ a f. (f, tt))
 fields_take (suc (suc (suc (suc (suc zero))))) =
@@ -184,7 +159,7 @@ point_again (Commit manifest content text chunks bytes fresh fresh_bytes uses) r
     (a_manifest ⊗ a_digest ⊗ a_digest ⊗ number32 ⊗ number32 ⊗ number32 ⊗ number32 ⊗ a_list number16 4096 a_container))
     (λ (a : ((((((ManifestId × Name) × Name) × ℕ) × ℕ) × ℕ) × ℕ) × List ContainerId). Commit a.0.0.0.0.0.0.0 a.0.0.0.0.0.0.1 a.0.0.0.0.0.1 a.0.0.0.0.1 a.0.0.0.1 a.0.0.1 a.0.1 a.1)
     (((((((manifest, content), text), chunks), bytes), fresh), fresh_bytes), uses) rest
-    ((((((((f.0, f.1), f.2), f.3), f.4), f.5), f.6), ((omega arith, le-leb _ _ few), f.7)), are_counts-true chunks bytes fresh fresh_bytes is.1.0)
+    ((((((((f.0, f.1), f.2), f.3), f.4), f.5), f.6), ((omega arith, le-leb _ _ few), f.7)), is.1.0)
 point_again (Finish session containers) rest is =
     kind_again (number32 ⊗ number32) (λ (a : ℕ × ℕ). Finish a.0 a.1) (session, containers) rest is.0
 point_again (Abort session containers texts) rest is =

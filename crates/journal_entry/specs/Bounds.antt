@@ -1,5 +1,5 @@
 -- What has a text in the journal.
-use Rattle.std.specs.Prelude.{ℕ, Bool, ◌&&◌, nat_le, ◌≡◌, ◌<◌, ◌≤◌, ◌^◌, List, length, take, IfSome}
+use Rattle.std.specs.Prelude.{ℕ, Bool, true, ◌&&◌, nat_le, ◌≡◌, ◌<◌, ◌≤◌, ◌^◌, List, length, take, IfSome}
 use Rattle.std.specs.List.{AllByRecursion}
 use Rattle.ss_base.specs.StreamName.{IsStreamName}
 use Rattle.ss_base.specs.declared.ids.ContainerId.{ContainerId}
@@ -14,28 +14,39 @@ use Rattle.journal_entry.specs.declared.entry.Point.{Point}
 use Rattle.journal_entry.specs.declared.entry.Point.TheVariants.{Begin, Choose, Commit, Finish, Abort, Delete, Look, Done, Reclaim, Stat}
 use Rattle.journal_entry.specs.EntryText.{entry_text}
 
--- The numbers of a commit: at least one chunk and at most 4,096, at least a byte and at most 11,200 a chunk,
--- and of these the fresh ones.
-pub record AreCounts (chunks bytes fresh fresh_bytes : ℕ) : Type 0 where
-  pub some : 1 ≤ chunks
-  pub segment : chunks ≤ 4096
-  pub long : chunks ≤ bytes
-  pub short : bytes ≤ 45875200
-  pub fresh_chunks : fresh ≤ chunks
-  pub fresh_part : fresh_bytes ≤ bytes
+-- how many hooks and champions a choice lists at most, uses a commit, and objects a reclaim
+abbrev pub most_hooks : ℕ
+most_hooks = 4096
 
--- whether numbers are those of a commit
+abbrev pub most_champions : ℕ
+most_champions = 255
+
+abbrev pub most_uses : ℕ
+most_uses = 4096
+
+abbrev pub most_objects : ℕ
+most_objects = 16
+
+-- how many chunks, and how many bytes, a segment has at most
+abbrev pub most_chunks : ℕ
+most_chunks = 4096
+
+abbrev pub most_bytes : ℕ
+most_bytes = 45875200
+
+-- whether these are the numbers of a commit: 1 to 4,096 chunks, at least as many bytes and at most 45,875,200 (11,200 for
+-- each of 4,096 chunks), and of both the fresh ones
 abbrev pub are_counts : ℕ → ℕ → ℕ → ℕ → Bool
 are_counts chunks bytes fresh fresh_bytes =
     nat_le 1 chunks
-    && (nat_le chunks 4096 && (nat_le chunks bytes && (nat_le bytes 45875200 && (nat_le fresh chunks && nat_le fresh_bytes bytes))))
+    && (nat_le chunks most_chunks && (nat_le chunks bytes && (nat_le bytes most_bytes && (nat_le fresh chunks && nat_le fresh_bytes bytes))))
 
 -- lists that are short enough for their counts, and the numbers of a commit
 abbrev pub PointIsWithinBounds : Point → Type 0
-PointIsWithinBounds (Choose session hooks champions) = (length hooks ≤ 4096) × (length champions ≤ 255)
+PointIsWithinBounds (Choose session hooks champions) = (length hooks ≤ most_hooks) × (length champions ≤ most_champions)
 PointIsWithinBounds (Commit manifest content text chunks bytes fresh fresh_bytes uses) =
-    AreCounts chunks bytes fresh fresh_bytes × (length uses ≤ 4096)
-PointIsWithinBounds (Reclaim objects) = length objects ≤ 16
+    (are_counts chunks bytes fresh fresh_bytes ≡ true) × (length uses ≤ most_uses)
+PointIsWithinBounds (Reclaim objects) = length objects ≤ most_objects
 PointIsWithinBounds _ = Unit {0}
 
 -- the bounds of an entry, which its types don't keep

@@ -13,7 +13,7 @@ use Rattle.journal_entry.specs.declared.entry.Seen.{Seen}
 use Rattle.journal_entry.specs.declared.entry.Totals.{Totals}
 use Rattle.journal_entry.specs.declared.entry.Point.{Point}
 use Rattle.journal_entry.specs.declared.entry.Point.TheVariants.{Begin, Choose, Commit, Finish, Abort, Delete, Look, Done, Reclaim, Stat}
-use Rattle.journal_entry.specs.Bounds.{are_counts}
+use Rattle.journal_entry.specs.Bounds.{most_hooks, most_champions, most_uses, most_objects, are_counts}
 use Rattle.journal_entry.specs.declared.fault.ReadError.{ReadError}
 use Rattle.journal_entry.specs.declared.fault.ReadError.TheVariants.{Memory, NotEntry}
 
@@ -124,13 +124,13 @@ begin_at = made (λ x. Begin x.0 x.1) (stream_name_at ▹ reply_at (number_at w3
 unfoldable pub choose_at : Reader Point
 choose_at =
     made (λ x. Choose x.0.0 x.0.1 x.1)
-    (number_at w32 ▹ list_at (number_at w16) 4096 digest_at ▹ list_at byte_at 255 manifest_at)
+    (number_at w32 ▹ list_at (number_at w16) most_hooks digest_at ▹ list_at byte_at most_champions manifest_at)
 
 unfoldable pub commit_at : Reader Point
 commit_at =
     made (λ x. Commit x.0.0.0.0.0.0.0 x.0.0.0.0.0.0.1 x.0.0.0.0.0.1 x.0.0.0.0.1 x.0.0.0.1 x.0.0.1 x.0.1 x.1)
     (passing (λ x. are_counts x.0.0.0.0.1 x.0.0.0.1 x.0.0.1 x.0.1)
-    (manifest_at ▹ digest_at ▹ digest_at ▹ number_at w32 ▹ number_at w32 ▹ number_at w32 ▹ number_at w32 ▹ list_at (number_at w16) 4096 container_at))
+    (manifest_at ▹ digest_at ▹ digest_at ▹ number_at w32 ▹ number_at w32 ▹ number_at w32 ▹ number_at w32 ▹ list_at (number_at w16) most_uses container_at))
 
 unfoldable pub finish_at : Reader Point
 finish_at = made (λ x. Finish x.0 x.1) (number_at w32 ▹ number_at w32)
@@ -148,7 +148,7 @@ unfoldable pub done_at : Reader Point
 done_at = made Done (number_at w32)
 
 unfoldable pub reclaim_at : Reader Point
-reclaim_at = made Reclaim (list_at byte_at 16 object_at)
+reclaim_at = made Reclaim (list_at byte_at most_objects object_at)
 
 unfoldable pub stat_at : Reader Point
 stat_at = made Stat totals_at
