@@ -1,0 +1,4 @@
+pub mod ScoreLaws
+pub mod ListLaws
+pub mod BestLaws
+pub mod ChoiceLaws

@@ -1,0 +1,38 @@
+// The rounds of the choice.
+ghost use Rattle.std.specs.Prelude.{◌≡◌, ◌≤◌, All, IfOk};
+ghost use Rattle.ss_base.specs.Champions.{champions};
+ghost use Rattle.champion_choice.specs.Scores.{StandsOnce};
+ghost use Rattle.champion_choice.specs.Lists.{standings, StampsTell};
+
+use crate::covered::{lower_at, mark, scores_of};
+use crate::score::best;
+use arrayvec::ArrayVec;
+use ss_base::{ManifestId, Memory, Standing};
+use std::alloc::Global;
+
+/// The champions of a segment, by one list of what stands for each of its hooks: at most `M` rounds, each of which
+/// takes the manifest that stands at the most hooks not yet covered, of several such the one with the greatest stamp
+/// (FAST 2009; the rule on ties is this project's own). The choice ends early where nothing stands at such a hook. A
+/// manifest stands at most once in a list, and two ids are equal exactly where their stamps are.
+pub fn choose<const M: usize>(
+    alloc: Global,
+    lists: &[Vec<Standing>],
+) -> Result<ArrayVec<ManifestId, M>, Memory>
+    requires rounds { (1 ≤ M) × (M ≤ 255) }
+    requires once { All StandsOnce (standings lists.now) }
+    requires stamps { StampsTell (standings lists.now) }
+    ensures { IfOk result (λ chosen. chosen.items ≡ champions M (standings lists.now)) }
+{
+    let mut scores = scores_of(alloc, lists)?;
+    let mut covered = vec![in alloc; false; lists.len()]?;
+    let mut chosen = ArrayVec::new();
+    for _round in 0..M {
+        let Some((id, _)) = best(&scores) else {
+            return Ok(chosen);
+        };
+        chosen.push(id);
+        lower_at(&mut scores, lists, covered.as_slice(), id);
+        mark(covered.as_mut_slice(), lists, id);
+    }
+    Ok(chosen)
+}

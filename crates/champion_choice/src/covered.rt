@@ -1,0 +1,100 @@
+// Which hooks are covered.
+ghost use Rattle.std.specs.Prelude.{◌≡◌, ℕ, ◌-◌, ◌^◌, ◌<◌, All, length, OnOk, IfOk};
+ghost use Rattle.ss_base.specs.declared.ids.ManifestId.{ManifestId as Id};
+ghost use Rattle.ss_base.specs.Ids.{same_manifest};
+ghost use Rattle.ss_base.specs.Champions.{stands_in, hooks_covered};
+ghost use Rattle.champion_choice.specs.Scores.{hooks_at, stamp_at, StandsOnce};
+ghost use Rattle.champion_choice.specs.Lists.{standings, left, remaining, marked, covered_by, HasAddedList, IsScored};
+
+use crate::score::{Score, add_one, lower};
+use ss_base::{ManifestId, Memory, Standing};
+use std::alloc::Global;
+use std::collections::BTreeMap;
+
+fn same_manifest(a: ManifestId, b: ManifestId) -> bool
+    ensures { result ≡ same_manifest a b }
+{
+    a.session == b.session && a.seq == b.seq
+}
+
+#[tactic(auto, unfolding(ss_base::specs::Champions::stands_in))]
+fn stands_in(id: ManifestId, stood: &[Standing]) -> bool
+    ensures { result ≡ stands_in id stood.now }
+{
+    stood.iter().any(|standing| same_manifest(id, standing.id))
+}
+
+// Counts one hook more for each manifest in its list.
+fn add_list(scores: &mut BTreeMap<ManifestId, Score>, stood: &[Standing]) -> Result<(), Memory>
+    requires once { StandsOnce stood.now }
+    requires room { (q : Id) → hooks_at scores.old q < 2 ^ 64 - 1 }
+    ensures { OnOk result (HasAddedList scores.old scores.new stood.now) }
+{
+    for standing in stood {
+        add_one(scores, *standing)?;
+    }
+    Ok(())
+}
+
+// The scores by all of the lists.
+pub(crate) fn scores_of(
+    alloc: Global,
+    lists: &[Vec<Standing>],
+) -> Result<BTreeMap<ManifestId, Score>, Memory>
+    requires { All StandsOnce (standings lists.now) }
+    ensures { IfOk result (λ scores. IsScored scores (standings lists.now)) }
+{
+    let mut scores = BTreeMap::new(alloc);
+    for stood in lists {
+        add_list(&mut scores, stood.as_slice())?;
+    }
+    Ok(scores)
+}
+
+// Lowers the scores of what stands at one hook, where it is uncovered and the manifest stands there.
+fn lower_hook(
+    scores: &mut BTreeMap<ManifestId, Score>,
+    stood: &[Standing],
+    covered: bool,
+    id: ManifestId,
+)
+    requires { StandsOnce stood.now }
+    ensures hooks { (q : Id) → hooks_at scores.new q ≡ hooks_at scores.old q - hooks_covered (covered_by id (left covered stood.now)) q }
+    ensures stamps { (q : Id) → stamp_at scores.new q ≡ stamp_at scores.old q }
+{
+    if covered {
+        return;
+    }
+    if !stands_in(id, stood) {
+        return;
+    }
+    lower(scores, stood);
+}
+
+// Lowers the scores of what stands at the uncovered hooks at which the manifest stands.
+pub(crate) fn lower_at(
+    scores: &mut BTreeMap<ManifestId, Score>,
+    lists: &[Vec<Standing>],
+    covered: &[bool],
+    id: ManifestId,
+)
+    requires once { All StandsOnce (standings lists.now) }
+    requires fits { length covered.now ≡ length lists.now }
+    ensures hooks { (q : Id) → hooks_at scores.new q ≡ hooks_at scores.old q - hooks_covered (covered_by id (remaining covered.now (standings lists.now))) q }
+    ensures stamps { (q : Id) → stamp_at scores.new q ≡ stamp_at scores.old q }
+{
+    for (i, stood) in lists.iter().enumerate() {
+        lower_hook(scores, stood.as_slice(), covered[i], id);
+    }
+}
+
+// Marks the hooks at which the manifest stands as covered.
+pub(crate) fn mark(covered: &mut [bool], lists: &[Vec<Standing>], id: ManifestId)
+    requires { length covered.old ≡ length lists.now }
+    ensures { covered.new ≡ marked id (standings lists.now) covered.old }
+{
+    for (i, stood) in lists.iter().enumerate() {
+        let stands = stands_in(id, stood.as_slice());
+        covered[i] |= stands;
+    }
+}
