@@ -1,18 +1,11 @@
 -- The best by score is the best of the definition.
-use Rattle.std.proofs.Common.{◌≡◌, ◌⊎◌, ℕ, zero, suc, ◌+◌, ◌-◌, ◌<◌, ◌≤◌, Bool, true, false, eqb, ltb, leb, cond, ◌&&◌, ◌||◌, List, [], ◌∷◌, Option, Some, None, refl, sym, ap, ◌∙◌, subst, inl, inr, arith, eqb-true}
-use Rattle.std.specs.List.{find, flat_map, list_all, Contains}
-use Rattle.std.specs.Option.{option_map_or, option_map}
-use Rattle.std.specs.Map.{lookup}
-use Rattle.std.specs.BTreeMap as tree
-use Rattle.std.proofs.lemmas.Bool.{both_ways, cases_Bool, false_from_ne_true, and_parts, and_from, or_cases, or_left, or_right, lt-ltb, ltb-true, le-leb, leb-true, eq-eqb, eqb-false, ltb-false, leb-false}
+use Rattle.std.proofs.Common.{◌≡◌, ◌⊎◌, ℕ, ◌<◌, ◌≤◌, true, false, eqb, ltb, leb, ◌&&◌, List, [], ◌∷◌, Option, Some, None, refl, sym, ap, ◌∙◌, subst, inl, inr, arith, eqb-true}
+use Rattle.std.proofs.lemmas.Bool.{both_ways, cases_Bool, and_parts, and_from, or_cases, or_left, or_right, lt-ltb, ltb-true, le-leb, leb-true, eq-eqb, eqb-false, ltb-false, leb-false}
 use Rattle.ss_base.specs.declared.ids.ManifestId.{ManifestId}
-use Rattle.ss_base.specs.declared.ids.Standing.{Standing}
-use Rattle.ss_base.specs.Ids.{same_manifest}
-use Rattle.ss_base.specs.Champions.{stands_in, hooks_covered, is_at_least, candidates, is_unbeaten, best, uncovered, champions}
-use Rattle.ss_base.proofs.IdLaws.{same_manifest-self, same_manifest-true}
-use Rattle.ss_base.proofs.MemberLaws.{In, any_in, in_any, all_in, flat_map_in, find_in, count_none}
+use Rattle.ss_base.specs.Champions.{best}
+use Rattle.ss_base.proofs.MemberLaws.{In}
 use Rattle.champion_choice.specs.declared.score.Score.{Score}
-use Rattle.champion_choice.specs.Scores.{hooks_in, is_ahead, better, best_from}
+use Rattle.champion_choice.specs.Scores.{is_ahead, better, best_from}
 
 -- ---- the best of some scores
 
@@ -70,28 +63,32 @@ above_zero n e = let ne = eqb-false n 0 e in omega (arith, ne)
 pub better_of : (Seen : ManifestId × Score → Type 0) (best : Option (ManifestId × Score)) (x : ManifestId × Score) → IsBestOf Seen best → IsBestOf (λ e. Seen e ⊎ (x ≡ e)) (better best x)
 better_of Seen None x so = elim (cases_Bool (eqb x.1.hooks 0)) [
   | inl none ↦ rw none (λ e seen. elim seen [ inl old ↦ so e old | inr same ↦ ap (λ (s : ManifestId × Score). s.1.hooks) (sym same) ∙ eqb-true x.1.hooks 0 none ])
-  | inr some ↦ rw some (inr refl, above_zero x.1.hooks some, (λ e seen. elim seen [
+  | inr some ↦ rw some (
+    inr refl,
+    above_zero x.1.hooks some,
+    (λ e seen. elim seen [
       | inl old ↦ true-ahead x.1 e.1 (inl (let zero_is = so e old in let above = above_zero x.1.hooks some in omega (arith, zero_is, above)))
       | inr same ↦ subst (λ (s : ManifestId × Score). is_ahead x.1 s.1 ≡ true) same (ahead_itself x.1)
-    ]))
+    ]),
+  )
 ]
 better_of Seen (Some b) x so = elim (cases_Bool (is_ahead x.1 b.1)) [
   | inl wins ↦ rw wins (
-      inr refl,
-      elim (ahead-true x.1 b.1 wins) as (λ _. 0 < x.1.hooks) [ inl more ↦ (let low = so.1 in omega (arith, low, more)) | inr tie ↦ (let low = so.1 in let e = tie.0 in omega (arith, low, e)) ],
-      (λ e seen. elim seen [
-        | inl old ↦ ahead_trans x.1 b.1 e.1 wins (so.2 e old)
-        | inr same ↦ subst (λ (s : ManifestId × Score). is_ahead x.1 s.1 ≡ true) same (ahead_itself x.1)
-      ]),
-    )
+    inr refl,
+    elim (ahead-true x.1 b.1 wins) as (λ _. 0 < x.1.hooks) [ inl more ↦ (let low = so.1 in omega (arith, low, more)) | inr tie ↦ (let low = so.1 in let e = tie.0 in omega (arith, low, e)) ],
+    (λ e seen. elim seen [
+      | inl old ↦ ahead_trans x.1 b.1 e.1 wins (so.2 e old)
+      | inr same ↦ subst (λ (s : ManifestId × Score). is_ahead x.1 s.1 ≡ true) same (ahead_itself x.1)
+    ]),
+  )
   | inr loses ↦ rw loses (
-      inl so.0,
-      so.1,
-      (λ e seen. elim seen [
-        | inl old ↦ so.2 e old
-        | inr same ↦ subst (λ (s : ManifestId × Score). is_ahead b.1 s.1 ≡ true) same (behind x.1 b.1 loses)
-      ]),
-    )
+    inl so.0,
+    so.1,
+    (λ e seen. elim seen [
+      | inl old ↦ so.2 e old
+      | inr same ↦ subst (λ (s : ManifestId × Score). is_ahead b.1 s.1 ≡ true) same (behind x.1 b.1 loses)
+    ]),
+  )
 ]
 
 widened : (Seen Also : ManifestId × Score → Type 0) → ((e : ManifestId × Score) → Seen e → Also e) → ((e : ManifestId × Score) → Also e → Seen e) → (best : Option (ManifestId × Score)) → IsBestOf Seen best → IsBestOf Also best

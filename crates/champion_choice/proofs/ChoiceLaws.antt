@@ -1,11 +1,11 @@
 -- The best by score is the best of the definition, round by round.
-use Rattle.std.proofs.Common.{◌≡◌, ◌⊎◌, ℕ, zero, suc, ◌+◌, ◌-◌, ◌<◌, ◌≤◌, Bool, true, false, eqb, ltb, leb, cond, ◌&&◌, ◌||◌, List, [], ◌∷◌, Option, Some, None, refl, sym, ap, ◌∙◌, subst, inl, inr, arith, eqb-true}
-use Rattle.std.specs.List.{find, flat_map, list_any, list_all, Contains, All}
+use Rattle.std.proofs.Common.{◌≡◌, ℕ, zero, suc, ◌<◌, Bool, true, false, eqb, ltb, leb, cond, ◌&&◌, ◌||◌, List, [], ◌∷◌, Option, Some, None, refl, sym, ap, ◌∙◌, subst, inl, inr, arith, eqb-true}
+use Rattle.std.specs.List.{find, list_any, list_all, Contains, All}
 use Rattle.std.specs.Option.{IfSome, option_map_or, option_map}
 use Rattle.std.specs.Map.{lookup}
 use Rattle.std.specs.Ordering.{eq_by_cmp}
 use Rattle.std.specs.BTreeMap as tree
-use Rattle.std.proofs.lemmas.Bool.{both_ways, cases_Bool, false_from_ne_true, and_parts, and_from, or_cases, ltb-true, leb-true, eq-eqb}
+use Rattle.std.proofs.lemmas.Bool.{both_ways, cases_Bool, and_parts, and_from, or_cases, ltb-true, leb-true, eq-eqb}
 use Rattle.std.proofs.lemmas.List.Elements.{All-head, All-tail}
 use Rattle.std.proofs.lemmas.List.Folds.{sum_by-zero}
 use Rattle.ss_base.specs.declared.ids.ManifestId.{ManifestId}
@@ -17,10 +17,10 @@ use Rattle.ss_base.proofs.IdLaws.{same_manifest-self, same_manifest-true}
 use Rattle.ss_base.proofs.OrderLaws.{manifests_tied}
 use Rattle.ss_base.proofs.MemberLaws.{In, any_in, in_any, all_in, flat_map_in, count_none, in_append_left, in_append_right}
 use Rattle.champion_choice.specs.declared.score.Score.{Score}
-use Rattle.champion_choice.specs.Scores.{score_at, hooks_in, hooks_at, stamp_at, is_ahead, best_from}
+use Rattle.champion_choice.specs.Scores.{score_at, hooks_in, hooks_at, stamp_at, is_ahead}
 use Rattle.champion_choice.specs.Lists.{StampsTell, remaining}
 use Rattle.champion_choice.proofs.ListLaws.{remaining_in}
-use Rattle.champion_choice.proofs.BestLaws.{IsBestOf, best_of}
+use Rattle.champion_choice.proofs.BestLaws.{IsBestOf}
 
 -- ---- lists
 

@@ -2,3 +2,4 @@ pub mod ScoreLaws
 pub mod ListLaws
 pub mod BestLaws
 pub mod ChoiceLaws
+pub mod TestLaws

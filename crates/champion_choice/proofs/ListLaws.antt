@@ -1,10 +1,9 @@
 -- Lists of hooks, of which some are covered.
-use Rattle.std.proofs.Common.{◌≡◌, ◌⊎◌, ℕ, zero, suc, ◌+◌, ◌-◌, ◌<◌, ◌≤◌, Bool, true, false, cond, not, ◌||◌, List, [], ◌∷◌, ◌++◌, length, take, get_or, set, replicate, Option, Some, None, Vec, Global, refl, sym, ap, ◌∙◌, subst, inl, inr, arith}
-use Rattle.std.specs.List.{flat_map, filter, count_by}
+use Rattle.std.proofs.Common.{◌≡◌, ℕ, zero, suc, ◌+◌, ◌-◌, ◌<◌, ◌≤◌, Bool, true, false, cond, not, ◌||◌, List, [], ◌∷◌, ◌++◌, length, take, get_or, set, replicate, None, Vec, Global, refl, sym, ap, ◌∙◌, subst, inl, inr, arith}
 use Rattle.std.specs.Map.{lookup}
 use Rattle.std.specs.Option.{option_map}
 use Rattle.std.specs.BTreeMap as tree
-use Rattle.std.proofs.lemmas.Bool.{both_ways, cases_Bool}
+use Rattle.std.proofs.lemmas.Bool.{cases_Bool}
 use Rattle.std.proofs.lemmas.List.{take_more, append-nil, append_assoc, length-take}
 use Rattle.std.proofs.lemmas.List.Elements.{filter-append}
 use Rattle.std.proofs.lemmas.List.Sums.{sum_by-append, count_by-le-length}
@@ -14,9 +13,9 @@ use Rattle.ss_base.specs.declared.ids.ManifestId.{ManifestId}
 use Rattle.ss_base.specs.declared.ids.Standing.{Standing}
 use Rattle.ss_base.specs.Order.{manifest_cmp}
 use Rattle.ss_base.specs.Champions.{stands_in, hooks_covered, candidates, uncovered}
-use Rattle.ss_base.proofs.MemberLaws.{In, in_append_left, in_append_right, flat_map_in, filter_in, count_one, count_other}
+use Rattle.ss_base.proofs.MemberLaws.{In, in_append_left, in_append_right, count_one, count_other}
 use Rattle.champion_choice.specs.declared.score.Score.{Score}
-use Rattle.champion_choice.specs.Scores.{hooks_in, hooks_at, stamp_at, one_if, StandsOnce}
+use Rattle.champion_choice.specs.Scores.{hooks_in, stamp_at, one_if}
 use Rattle.champion_choice.specs.Lists.{standings, left, remaining, marked, covered_by, HasAddedList, IsScored}
 
 -- ---- counts

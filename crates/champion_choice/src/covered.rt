@@ -18,7 +18,7 @@ fn same_manifest(a: ManifestId, b: ManifestId) -> bool
 }
 
 #[tactic(auto, unfolding(ss_base::specs::Champions::stands_in))]
-fn stands_in(id: ManifestId, stood: &[Standing]) -> bool
+pub(crate) fn stands_in(id: ManifestId, stood: &[Standing]) -> bool
     ensures { result ≡ stands_in id stood.now }
 {
     stood.iter().any(|standing| same_manifest(id, standing.id))

@@ -1,4 +1,4 @@
-use Rattle.std.proofs.Common.{◌≡◌, ℕ, ◌+◌, ◌-◌, ◌++◌, ◌<◌, [], ◌∷◌, suc, length, replicate, false, Option, Some, None, refl, sym, ap, ◌∙◌, subst, arith, rules}
+use Rattle.std.proofs.Common.{◌≡◌, ℕ, ◌+◌, ◌-◌, ◌++◌, [], ◌∷◌, suc, length, replicate, false, Option, Some, None, sym, ap, ◌∙◌, subst, arith, rules}
 use Rattle.std.proofs.lemmas.List.{append-nil, append_assoc, length-map, length-replicate, with_items_is}
 use Rattle.std.specs.Vec.{with_items}
 use Rattle.ss_base.specs.Champions.{hooks_covered, uncovered, best, champions}

@@ -1,4 +1,4 @@
-use Rattle.std.proofs.Common.{◌≡◌, ◌-◌, false, true, refl, sym, ap, ◌∙◌}
+use Rattle.std.proofs.Common.{◌≡◌, ◌-◌, false, true, sym, ap, ◌∙◌}
 use Rattle.ss_base.specs.Champions.{stands_in, hooks_covered}
 use Rattle.champion_choice.specs.Scores.{hooks_at}
 use Rattle.champion_choice.specs.Lists.{left, covered_by}

@@ -1,4 +1,4 @@
-use Rattle.std.proofs.Common.{◌≡◌, ◌<◌, length, List, sym, subst, arith}
+use Rattle.std.proofs.Common.{◌<◌, length, List, sym, subst, arith}
 use Rattle.std.proofs.lemmas.List.{length-map}
 use Rattle.ss_base.specs.declared.ids.Standing.{Standing}
 use Rattle.champion_choice.specs.Scores.{StandsOnce}
