@@ -4,6 +4,7 @@ use Rattle.std.specs.List.{AllByRecursion}
 use Rattle.ss_base.specs.StreamName.{IsStreamName}
 use Rattle.ss_base.specs.declared.ids.ContainerId.{ContainerId}
 use Rattle.ss_base.specs.declared.ids.ManifestId.{ManifestId}
+use Rattle.ss_base.specs.declared.limits.TheConstants.{MAX_CHAMPIONS, MAX_CHUNKS}
 use Rattle.ss_base.specs.declared.name.Name.{Name}
 use Rattle.ss_base.specs.declared.object.Object.{Object}
 use Rattle.ss_base.specs.declared.object.Object.TheVariants.{Container, Manifest}
@@ -19,7 +20,7 @@ abbrev pub most_hooks : ℕ
 most_hooks = 4096
 
 abbrev pub most_champions : ℕ
-most_champions = 255
+most_champions = MAX_CHAMPIONS
 
 abbrev pub most_uses : ℕ
 most_uses = 4096
@@ -29,7 +30,7 @@ most_objects = 16
 
 -- how many chunks, and how many bytes, a segment has at most
 abbrev pub most_chunks : ℕ
-most_chunks = 4096
+most_chunks = MAX_CHUNKS
 
 abbrev pub most_bytes : ℕ
 most_bytes = 45875200
