@@ -1,5 +1,5 @@
 // The entries that were found in a journal so far.
-ghost use Rattle.std.specs.Prelude.{◌≡◌, ◌≤◌, ◌<◌, ℕ, [], ◌∷◌, ◌++◌, length, IfOk, IfErr, IfSome, IfNone, OnOk};
+ghost use Rattle.std.specs.Prelude.{◌≡◌, ◌≤◌, ◌<◌, [], ◌∷◌, ◌++◌, length, IfOk, IfErr, IfSome, IfNone, OnOk};
 ghost use Rattle.journal_entry.specs.Bounds.{IsEntry, Begins, PointIsWithinBounds};
 ghost use Rattle.journal_entry.specs.EntryText.{entry_text, entries_text};
 ghost use Rattle.journal_entry.specs.Weight.{point_weight};

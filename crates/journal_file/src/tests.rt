@@ -1,5 +1,5 @@
 // Journals on shelves in memory, whole, cut short, and in small pieces.
-ghost use Rattle.std.specs.Prelude.{◌≡◌, ◌≤◌, None, All, IfOk};
+ghost use Rattle.std.specs.Prelude.{◌≤◌, None, All, IfOk};
 ghost use Rattle.journal_entry.specs.Bounds.{IsWithinBounds, PointIsWithinBounds};
 
 use crate::{AppendFault, CreateFault, JournalFault, append, create, one_answer, read};

@@ -4,4 +4,5 @@ mod CommandLaws
 mod FeedLaws
 mod ResultLaws
 mod SoFarLaws
+mod StatusLaws
 mod StoreLaws

@@ -4,6 +4,7 @@
 mod chunk_lines;
 mod command;
 mod feed_source;
+mod laws;
 mod line_printer;
 mod names;
 mod printing;
@@ -12,6 +13,7 @@ mod segments;
 mod stop;
 
 pub use command::{Command, command_of};
+pub use laws::whole_fault_lines;
 pub use run::{Lane, run_solo};
 
 #[cfg(test)]
