@@ -1,0 +1,4 @@
+pub mod BoundLaws
+pub mod TreeLaws
+pub mod LoopLaws
+pub mod TestLaws

@@ -1,0 +1,7 @@
+use Rattle.std.proofs.Common.{take}
+use Rattle.std.specs.List.{IsDistinct}
+use Rattle.ss_base.specs.Ids.{same_manifest}
+use Rattle.sparse_index.proofs.tests.are_distinct_ids.Given as goal
+
+abbrev pub invariant-loop-i : goal.invariant-loop-i
+invariant-loop-i l = IsDistinct same_manifest (take l.i l.ids)

@@ -1,0 +1,11 @@
+//! The bounded index of hooks: which manifests stand at each hook, the most recently used first.
+#![tactic(auto)]
+
+mod index;
+mod list;
+mod tree;
+
+pub use index::Index;
+
+#[cfg(test)]
+mod tests;
