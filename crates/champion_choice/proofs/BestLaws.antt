@@ -9,9 +9,6 @@ use Rattle.champion_choice.specs.Scores.{is_ahead, better, best_from}
 
 -- ---- the best of some scores
 
-Scored : Type 0
-Scored = ManifestId × Score
-
 -- the best so far of what was seen
 abbrev pub IsBestOf : (ManifestId × Score → Type 0) → Option (ManifestId × Score) → Type 0
 IsBestOf Seen None = (e : ManifestId × Score) → Seen e → e.1.hooks ≡ 0

@@ -1,5 +1,5 @@
 -- Scores that a tree keeps, by id.
-use Rattle.std.proofs.Common.{◌≡◌, ℕ, zero, suc, ◌+◌, ◌-◌, ◌<◌, Bool, true, false, cond, ◌||◌, List, [], ◌∷◌, length, take, get_or, Some, None, refl, sym, ap, ◌∙◌, subst, inl, inr, arith}
+use Rattle.std.proofs.Common.{◌≡◌, ℕ, zero, suc, ◌+◌, ◌-◌, ◌<◌, Bool, true, false, cond, ◌||◌, List, [], ◌∷◌, length, take, get_or, Some, refl, sym, ap, ◌∙◌, subst, inl, inr, arith}
 use Rattle.std.specs.declared.cmp.Ordering.{Ordering}
 use Rattle.std.specs.Ordering.{eq_by_cmp}
 use Rattle.std.specs.Option.{option_map}
@@ -27,9 +27,6 @@ use Rattle.champion_choice.specs.Lists.{HasAddedList}
 -- the order that the derive gives
 abbrev pub derived : ManifestId → ManifestId → Ordering
 derived = (id_ord.ghosts).cmp
-
-pub derived-manifest_cmp : derived ≡ manifest_cmp
-derived-manifest_cmp = refl
 
 pub apart_back : (a b : ManifestId) → same_manifest a b ≡ false → same_manifest b a ≡ false
 apart_back a b apart = false_from_ne_true (same_manifest b a) (λ same.
@@ -84,18 +81,6 @@ module _ (m n : tree.BTreeMap ManifestId Score) where
         (λ q apart. ap (option_map (λ x. x.stamp)) (to.other q apart));
   }
 
-zero_less : (n : ℕ) → 0 ≡ 0 - n
-zero_less n = omega arith
-
--- a manifest without a score has none to lose
-pub untaken : (m : tree.BTreeMap ManifestId Score) (k : ManifestId) → score_at m k ≡ None → HasTaken m m k
-untaken m k is = record {
-  hooks = by_id (λ q. hooks_at m q ≡ hooks_at m q - one_if (same_manifest q k)) k
-      (ap hooks_in is ∙ zero_less (one_if (same_manifest k k)) ∙ ap (λ o. hooks_in o - one_if (same_manifest k k)) (sym is))
-      (λ q apart. no_less (hooks_at m q) (hooks_at m q) refl ∙ ap (λ b. hooks_at m q - one_if b) (sym apart));
-  stamps = λ q. refl;
-}
-
 -- ---- a list that stands at a hook
 
 each_apart : (x : Standing) (xs : List Standing) (i : ℕ) (d : Standing) → AllByRecursion (λ (y : Standing). same_manifest x.id y.id ≡ false) xs → i < length xs → same_manifest x.id (get_or xs i d).id ≡ false
@@ -125,9 +110,6 @@ none_stands q = refl
 or_false : (b : Bool) → (b || false) ≡ b
 or_false true = refl
 or_false false = refl
-
-less_both : (a b : ℕ) → (a - 0) - b ≡ a - b
-less_both a b = omega arith
 
 -- of two tests that do not both hold
 either_less : (n : ℕ) (a b : Bool) → (b ≡ true → a ≡ false) → (n - one_if a) - one_if b ≡ n - one_if (a || b)

@@ -4,7 +4,7 @@ use prog.Memory.{up}
 use Rattle.std.specs.List.{filter, filter_map, cons_option, IsDistinct, AllByRecursion}
 use Rattle.std.specs.Option.{option_to_list}
 use Rattle.std.proofs.lemmas.Bool.{both_ways, cases_Bool, false_from_ne_true}
-use Rattle.std.proofs.lemmas.List.{take_more, take_all, take-append-le, append-nil, length-append}
+use Rattle.std.proofs.lemmas.List.{take_more, take_all, append-nil, length-append}
 use Rattle.std.proofs.lemmas.List.Elements.{filter_more, filter_map-append}
 use Rattle.std.proofs.lemmas.Map.Keys.{IsDistinct-head, IsDistinct-tail}
 use Rattle.ss_base.specs.declared.ids.ManifestId.{ManifestId}
@@ -22,22 +22,6 @@ pub take_twice : {X : Type 0} (n : ℕ) (xs ys : List X) → take n (take n xs +
 take_twice zero xs ys = refl
 take_twice (suc n) [] ys = refl
 take_twice (suc n) (x ∷ xs) ys = ap (λ l. x ∷ l) (take_twice n xs ys)
-
--- a list within the bound, with one more
-pub fits_one : {X : Type 0} (n : ℕ) (xs ys : List X) (x : X) → length xs < n → ys ≡ xs ++ x ∷ [] → ys ≡ take n (xs ++ x ∷ [])
-fits_one n xs ys x below is =
-    let long = length-append xs (x ∷ []) in
-    is ∙ sym (take_all n (xs ++ x ∷ []) (omega (arith, long)))
-
--- a full list takes no more
-pub full_any : {X : Type 0} (n : ℕ) (xs ys : List X) → length xs ≡ n → xs ≡ take n (xs ++ ys)
-full_any n xs ys full = sym (take_all n xs (omega (arith, full))) ∙ sym (take-append-le n xs ys (omega (arith, full)))
-
-full_one : {X : Type 0} (n : ℕ) (xs : List X) (x : X) → length xs ≡ n → xs ≡ take n (xs ++ x ∷ [])
-full_one zero [] x full = refl
-full_one zero (y ∷ xs) x full = absurd (omega arith)
-full_one (suc n) [] x full = absurd (omega arith)
-full_one (suc n) (y ∷ xs) x full = ap (λ l. y ∷ l) (full_one n xs x (omega arith))
 
 pub fits_none : {X : Type 0} (n : ℕ) (xs : List X) → length xs ≤ n → xs ≡ take n (xs ++ [])
 fits_none n xs within = sym (take_all n xs within) ∙ ap (take n) (sym (append-nil xs))

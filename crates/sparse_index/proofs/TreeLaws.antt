@@ -26,9 +26,6 @@ use Rattle.sparse_index.specs.Tree.{kept_at, items_in, lists_of}
 abbrev pub derived : Name → Name → Ordering
 derived = (name_ord.ghosts).cmp
 
-pub derived-name_cmp : derived ≡ name_cmp
-derived-name_cmp = refl
-
 pub names_total : IsTotalOrder name_cmp
 names_total = total-law
 
