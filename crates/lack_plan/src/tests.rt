@@ -28,6 +28,7 @@ fn manifest(alloc: Global, pieces: &[Piece]) -> Result<Manifest, Fail> {
 
 #[test]
 fn origins_of_a_segment(rt: HostRuntime) -> Result<(), Fail> {
+    one_plan();
     let alloc = rt.alloc();
     let pieces = [
         piece(1, 5),

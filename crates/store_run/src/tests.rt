@@ -156,6 +156,7 @@ fn lines_of_segments(rt: HostRuntime) -> Result<(), Fail> {
 // Two segments are whole when the second read fails.
 #[test]
 fn fault_in_mid_stream(rt: HostRuntime) -> Result<(), Fail> {
+    whole_fault_lines();
     let alloc = rt.alloc();
     let zeros = vec![in alloc; 0; 5_000]?;
     let (status, printed) = run(alloc, &["segments", "tiny"], &zeros, &[2], &[])?;
