@@ -4,7 +4,13 @@ pub mod NameLaws
 pub mod ChampionLaws
 pub mod StandingLaws
 pub mod OnceLaws
+pub mod CountLaws
+mod ListLaws
 pub mod NeedLaws
+mod LiveLaws
+mod BegunLaws
+mod EndLaws
 pub mod ObjectLaws
 pub mod BoundLaws
 mod OwnEndLaws
+mod OtherLaws

@@ -37,7 +37,7 @@ pub record StandsSomewhere (id : ManifestId) (past : List Entry) : Type 0 where
   pub listed : In stands (standing bound hook past)
   pub same : id ≡ stands.id
 
-listed_manifest : (id : ManifestId) (ids : List ManifestId) → has_manifest id ids ≡ true → In id ids
+pub listed_manifest : (id : ManifestId) (ids : List ManifestId) → has_manifest id ids ≡ true → In id ids
 unfolding has_manifest
 listed_manifest id ids h =
     let found = any_in (same_manifest id) ids h in
@@ -62,7 +62,7 @@ champion_somewhere rules hooks past id h =
     }
 
 -- the champions of a choice that is allowed stand somewhere
-chosen_somewhere : (rules : Rules) (past : List Entry) (author : ℕ) (id : ManifestId) (point : Point) → is_allowed rules past author point ≡ true → has_manifest id (unwrap_or (champions_chosen point) []) ≡ true → StandsSomewhere id past
+pub chosen_somewhere : (rules : Rules) (past : List Entry) (author : ℕ) (id : ManifestId) (point : Point) → is_allowed rules past author point ≡ true → has_manifest id (unwrap_or (champions_chosen point) []) ≡ true → StandsSomewhere id past
 unfolding champions_chosen has_manifest
 chosen_somewhere rules past author id (Choose s hooks champions) allowed h =
     let said = choose_says rules past author s hooks champions allowed in
@@ -70,15 +70,15 @@ chosen_somewhere rules past author id (Choose s hooks champions) allowed h =
 chosen_somewhere rules past author id _ allowed h = absurd (false≢true h)
 
 -- the pending choice after one more entry
-pending_one : (t : ℕ) (entry : Entry) (past : List Entry) → settles t entry.point ≡ true → pending_champions t (entry ∷ past) ≡ unwrap_or (champions_chosen entry.point) []
+pub pending_one : (t : ℕ) (entry : Entry) (past : List Entry) → settles t entry.point ≡ true → pending_champions t (entry ∷ past) ≡ unwrap_or (champions_chosen entry.point) []
 unfolding pending_champions pending newest
 pending_one t entry past here = rw here refl
 
-pending_same : (t : ℕ) (entry : Entry) (past : List Entry) → settles t entry.point ≡ false → pending_champions t (entry ∷ past) ≡ pending_champions t past
+pub pending_same : (t : ℕ) (entry : Entry) (past : List Entry) → settles t entry.point ≡ false → pending_champions t (entry ∷ past) ≡ pending_champions t past
 unfolding pending_champions pending newest
 pending_same t entry past other = rw other refl
 
-pending_none : (t : ℕ) → pending_champions t [] ≡ []
+pub pending_none : (t : ℕ) → pending_champions t [] ≡ []
 unfolding pending_champions pending newest
 pending_none t = refl
 
@@ -112,7 +112,7 @@ begun_listed t past begun =
     let found = any_in (λ (entry : Entry). begins t entry.point) past begun in
     in_filter_map (λ (entry : Entry). session_begun entry.point) found.0 t past found.1 (number_is t (session_begun found.0.point) found.2)
 
-champion_from : (rules : Rules) (t : ℕ) (id : ManifestId) (past : List Entry) → is_legal rules past ≡ true → has_manifest id (pending_champions t past) ≡ true → is_champion id past ≡ true
+pub champion_from : (rules : Rules) (t : ℕ) (id : ManifestId) (past : List Entry) → is_legal rules past ≡ true → has_manifest id (pending_champions t past) ≡ true → is_champion id past ≡ true
 unfolding is_champion
 champion_from rules t id past legal h =
     in_any (λ session. has_manifest id (pending_champions session past)) t (sessions past) (begun_listed t past (pending_begun rules t id past legal h)) h

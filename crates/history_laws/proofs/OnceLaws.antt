@@ -64,7 +64,7 @@ apart_front rules bound id past stood legal next each apart = apart_take same_st
   apart,
 )
 
-chosen_apart : (rules : Rules) (past : List Entry) (author s : ℕ) (hooks : List Name) (chosen : List ManifestId) → is_allowed rules past author (Choose s hooks chosen) ≡ true → Apart same_manifest chosen
+pub chosen_apart : (rules : Rules) (past : List Entry) (author s : ℕ) (hooks : List Name) (chosen : List ManifestId) → is_allowed rules past author (Choose s hooks chosen) ≡ true → Apart same_manifest chosen
 unfolding champions_for
 chosen_apart rules past author s hooks chosen allowed =
     let said = choose_says rules past author s hooks chosen allowed in

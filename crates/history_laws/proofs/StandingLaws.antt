@@ -75,25 +75,25 @@ others_in x chosen stood h =
     let parts = filter_in (λ (s : Standing). not (has_manifest s.id chosen)) x stood h in
     (parts.0, not-true (has_manifest x.id chosen) parts.1)
 
-promoted_in : (x : Standing) (chosen : List ManifestId) (stood : List Standing) → In x (promoted chosen stood) → In x stood
+pub promoted_in : (x : Standing) (chosen : List ManifestId) (stood : List Standing) → In x (promoted chosen stood) → In x stood
 unfolding promoted
 promoted_in x chosen stood h = elim (append_in x (chosen_standings chosen stood) (others_standing chosen stood) h) [
   | inl first ↦ (chosen_in x chosen stood first).0
   | inr other ↦ (others_in x chosen stood other).0
 ]
 
-front_in : (x newest : Standing) (bound : ℕ) (stood : List Standing) → In x (in_front bound newest stood) → (newest ≡ x) ⊎ In x stood
+pub front_in : (x newest : Standing) (bound : ℕ) (stood : List Standing) → In x (in_front bound newest stood) → (newest ≡ x) ⊎ In x stood
 unfolding in_front
 front_in x newest bound stood h = take_in x bound (newest ∷ stood) h
 
-without_in : (x : Standing) (s : ℕ) (stood : List Standing) → In x (without_session s stood) → In x stood × (eqb x.id.session s ≡ false)
+pub without_in : (x : Standing) (s : ℕ) (stood : List Standing) → In x (without_session s stood) → In x stood × (eqb x.id.session s ≡ false)
 unfolding without_session
 without_in x s stood h =
     let parts = filter_in (λ (t : Standing). not (eqb t.id.session s)) x stood h in
     (parts.0, not-true (eqb x.id.session s) parts.1)
 
 -- an item of one of two lists
-chosen_by : (b : Bool) (x : Standing) (xs ys : List Standing) → In x (cond b xs ys) → In x xs ⊎ In x ys
+pub chosen_by : (b : Bool) (x : Standing) (xs ys : List Standing) → In x (cond b xs ys) → In x xs ⊎ In x ys
 chosen_by true x xs ys h = inl h
 chosen_by false x xs ys h = inr h
 

@@ -1,5 +1,5 @@
 // The entries of a legal history.
-ghost use Rattle.std.specs.Prelude.{◌≡◌, ◌≤◌, ◌∷◌, ◌++◌, List, true};
+ghost use Rattle.std.specs.Prelude.{◌≡◌, ◌≤◌, ◌∷◌, ◌++◌, List, All, true};
 ghost use Rattle.journal_entry.specs.declared.entry.Entry.{Entry};
 ghost use Rattle.history.specs.declared.rules.Rules.{Rules};
 ghost use Rattle.history.specs.Bounds.{IsWithinBounds};
@@ -12,6 +12,8 @@ pub fn legal_prefix()
 
 /// Each entry of a legal history is within the bounds of an entry, where a segment has at most 255 champions.
 pub fn entries_within_bounds()
-    ensures { (rules : Rules) (entry : Entry) (past : List Entry) → rules.champions ≤ 255
+    ensures newest { (rules : Rules) (entry : Entry) (past : List Entry) → rules.champions ≤ 255
         → is_legal rules (entry ∷ past) ≡ true → IsWithinBounds entry }
+    ensures each { (rules : Rules) (past : List Entry) → rules.champions ≤ 255 → is_legal rules past ≡ true
+        → All IsWithinBounds past }
 {}

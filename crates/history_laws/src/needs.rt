@@ -1,15 +1,21 @@
 // What is needed no more stays so.
-ghost use Rattle.std.specs.Prelude.{◌≡◌, ◌∷◌, ◌++◌, List, true, false, Contains};
+ghost use Rattle.std.specs.Prelude.{◌≡◌, ◌∷◌, ◌++◌, ℕ, List, true, false, Contains};
 ghost use Rattle.std.specs.List.{IsDistinct};
 ghost use Rattle.ss_base.specs.declared.ids.ContainerId.{ContainerId};
 ghost use Rattle.ss_base.specs.declared.ids.ManifestId.{ManifestId};
 ghost use Rattle.ss_base.specs.declared.object.Object.{Object};
-ghost use Rattle.ss_base.specs.Ids.{same_object};
+ghost use Rattle.ss_base.specs.Ids.{same_object, has_manifest};
 ghost use Rattle.journal_entry.specs.declared.entry.Entry.{Entry};
 ghost use Rattle.history.specs.declared.rules.Rules.{Rules};
-ghost use Rattle.history.specs.Sessions.{is_closed, has};
+ghost use Rattle.history.specs.Sessions.{is_closed, has, pending_champions};
 ghost use Rattle.history.specs.Need.{is_live, is_needed, is_wanted, erasable, reclaims};
 ghost use Rattle.history.specs.Legal.{is_legal};
+
+/// A champion of a pending choice is live, so that its containers are needed.
+pub fn pending_is_live()
+    ensures { (rules : Rules) (past : List Entry) (session : ℕ) (id : ManifestId) → is_legal rules past ≡ true
+        → has_manifest id (pending_champions session past) ≡ true → is_live id past ≡ true }
+{}
 
 /// A manifest of a closed session that is not live never becomes live again.
 pub fn never_live_again()

@@ -99,5 +99,10 @@ fn histories_that_the_laws_speak_of(rt: HostRuntime) -> Result<(), Fail> {
     never_needed_again();
     never_wanted_again();
     reclaimed_once();
+    pending_is_live();
+    begun_once();
+    ends_fit();
+    other_sessions_stay();
+    other_readings_stay();
     Ok(())
 }

@@ -1,5 +1,5 @@
 use Rattle.history.specs.StandingList.{standing}
-use Rattle.history_laws.specs.Stands.{MayStand}
+use Rattle.history_laws.specs.Stands.{MayStand, HasChosen}
 use Rattle.ss_base.proofs.MemberLaws.{All-from_in, in_Contains}
 use mathlib.Core.List.{map}
 use Rattle.ss_base.specs.declared.ids.Standing.{Standing}
@@ -7,7 +7,15 @@ use Rattle.ss_base.specs.Ids.{same_manifest}
 use Rattle.ss_base.proofs.ApartLaws.{apart_map, IsDistinct-from_apart}
 use Rattle.history_laws.proofs.StandingLaws.{what_stands}
 use Rattle.history_laws.proofs.OnceLaws.{same_standing, stands_once, same_stamps}
+use Rattle.history_laws.proofs.ListLaws.{standing_short, standing_chosen}
 use Rattle.history_laws.proofs.standings.what_stands.Goals as goal
+
+pub returns-clause-chosen : goal.returns-clause-chosen
+returns-clause-chosen c = λ rules past bound hook legal.
+    All-from_in (λ stands. HasChosen hook stands past) (standing bound hook past) (standing_chosen rules bound hook past legal)
+
+pub returns-clause-bounded : goal.returns-clause-bounded
+returns-clause-bounded c = λ rules past bound hook legal. standing_short rules bound hook past legal
 
 pub returns-clause-committed : goal.returns-clause-committed
 returns-clause-committed c = λ rules past bound hook legal.
