@@ -29,36 +29,36 @@ pub record IsStep (rules : Rules) (entry : Entry) (past : List Entry) : Type 0 w
 pub step : (rules : Rules) (entry : Entry) (past : List Entry) → is_legal rules (entry ∷ past) ≡ true → IsStep rules entry past
 unfolding is_legal may_follow
 step rules entry past legal =
-    let parts = and_parts (is_legal rules past) (may_follow rules entry past) legal in
+    let parts = and_parts _ _ legal in
     record {
       legal = parts.0;
-      allowed = (and_parts (is_allowed rules past entry.author entry.point) (is_within rules.limits (entry ∷ past)) parts.1).0;
+      allowed = (and_parts _ _ parts.1).0;
     }
 
 -- ---- the ends of a session
 
 open_unfinished : (author s : ℕ) (past : List Entry) → is_open_to author s past ≡ true → is_unfinished s past ≡ true
 unfolding is_open_to
-open_unfinished author s past open_to = (and_parts (is_unfinished s past) (is_begun_by author s past) open_to).0
+open_unfinished author s past open_to = (and_parts _ _ open_to).0
 
 same_unfinished : (author s t : ℕ) (past : List Entry) → eqb s t ≡ true → is_open_to author t past ≡ true → is_unfinished s past ≡ true
-same_unfinished author s t past same open_to = subst (λ n. is_unfinished n past ≡ true) (sym (eqb-true s t same)) (open_unfinished author t past open_to)
+same_unfinished author s t past same open_to = subst (λ n. is_unfinished n past ≡ true) (sym (eqb-true _ _ same)) (open_unfinished author t past open_to)
 
 pub finishes_open : (rules : Rules) (past : List Entry) (author s : ℕ) (point : Point) → is_allowed rules past author point ≡ true → finishes s point ≡ true → is_unfinished s past ≡ true
 unfolding is_allowed finishes
 finishes_open rules past author s (Finish t containers) allowed does =
-    same_unfinished author s t past does (and_parts (is_open_to author t past) (not (is_pending t past) && leb (own_end t past) containers) allowed).0
+    same_unfinished author s t past does (and_parts _ _ allowed).0
 finishes_open rules past author s _ allowed does = absurd (false≢true does)
 
 pub aborts_open : (rules : Rules) (past : List Entry) (author s : ℕ) (point : Point) → is_allowed rules past author point ≡ true → aborts s point ≡ true → is_unfinished s past ≡ true
 unfolding is_allowed aborts
 aborts_open rules past author s (Abort t containers texts) allowed does =
-    same_unfinished author s t past does (and_parts (is_open_to author t past) (leb (own_end t past) containers && are_texts t texts past) allowed).0
+    same_unfinished author s t past does (and_parts _ _ allowed).0
 aborts_open rules past author s _ allowed does = absurd (false≢true does)
 
 pub closes_open : (rules : Rules) (past : List Entry) (author s : ℕ) (point : Point) → is_allowed rules past author point ≡ true → closes s point ≡ true → is_unfinished s past ≡ true
 unfolding closes
-closes_open rules past author s point allowed does = elim (or_cases (finishes s point) (aborts s point) does) [
+closes_open rules past author s point allowed does = elim (or_cases _ _ does) [
   | inl finish ↦ finishes_open rules past author s point allowed finish
   | inr abort ↦ aborts_open rules past author s point allowed abort
 ]
@@ -67,7 +67,7 @@ closes_open rules past author s point allowed does = elim (or_cases (finishes s 
 
 same_reply : (s : ℕ) (o : Option ℕ) → option_eq (λ a b. eqb a b) (Some s) o ≡ true → o ≡ Some s
 same_reply s None e = absurd (false≢true e)
-same_reply s (Some t) e = ap Some (sym (eqb-true s t e))
+same_reply s (Some t) e = ap Some (sym (eqb-true _ _ e))
 
 -- the stream that stands under a name is retained, and its session reserved the name
 pub retained_is : (name : List ℕ) (s : ℕ) (past : List Entry) → retained name past ≡ Some s → In s (sessions_under name past) × (is_retained s past ≡ true)
@@ -81,7 +81,7 @@ delete_says rules past author name s allowed = same_reply s (retained name past)
 pub deletes_retained : (rules : Rules) (past : List Entry) (author s : ℕ) (point : Point) → is_allowed rules past author point ≡ true → deletes s point ≡ true → is_retained s past ≡ true
 unfolding deletes
 deletes_retained rules past author s (Delete name (Some t)) allowed does =
-    subst (λ n. is_retained n past ≡ true) (sym (eqb-true s t does)) (retained_is name t past (delete_says rules past author name t allowed)).1
+    subst (λ n. is_retained n past ≡ true) (sym (eqb-true _ _ does)) (retained_is name t past (delete_says rules past author name t allowed)).1
 deletes_retained rules past author s (Delete name None) allowed does = absurd (false≢true does)
 deletes_retained rules past author s _ allowed does = absurd (false≢true does)
 
@@ -103,12 +103,12 @@ begin_says rules past author name s allowed =
 pub begins_next : (rules : Rules) (past : List Entry) (author s : ℕ) (point : Point) → is_allowed rules past author point ≡ true → begins s point ≡ true → s ≡ session_count past
 unfolding begins session_begun
 begins_next rules past author s (Begin name None) allowed does = absurd (false≢true does)
-begins_next rules past author s (Begin name (Some t)) allowed does = eqb-true s t does ∙ (begin_says rules past author name t allowed).next
+begins_next rules past author s (Begin name (Some t)) allowed does = eqb-true _ _ does ∙ (begin_says rules past author name t allowed).next
 begins_next rules past author s _ allowed does = absurd (false≢true does)
 
 same_sight : (seen : Seen) (reader : ℕ) (found : Option ℕ) → option_eq same_seen (Some seen) (option_map (λ session. record { reader = reader; session = session }) found) ≡ true → found ≡ Some seen.session
 same_sight seen reader None e = absurd (false≢true e)
-same_sight seen reader (Some s) e = ap Some (sym (eqb-true seen.session s (and_parts (eqb seen.reader reader) (eqb seen.session s) e).1))
+same_sight seen reader (Some s) e = ap Some (sym (eqb-true _ _ (and_parts _ _ e).1))
 
 -- a Look with a stream: it is the one under the name
 pub look_says : (rules : Rules) (past : List Entry) (author : ℕ) (name : List ℕ) (seen : Seen) → is_allowed rules past author (Look name (Some seen)) ≡ true → retained name past ≡ Some seen.session
@@ -127,9 +127,9 @@ pub choose_says : (rules : Rules) (past : List Entry) (author s : ℕ) (hooks : 
 unfolding is_allowed
 choose_says rules past author s hooks champions allowed =
     let found = champions_for rules hooks past in
-    let first = and_parts (is_open_to author s past) (not (is_pending s past) && (are_hooks rules.bits hooks && pointwise same_manifest champions found)) allowed in
-    let second = and_parts (not (is_pending s past)) (are_hooks rules.bits hooks && pointwise same_manifest champions found) first.1 in
-    let third = and_parts (are_hooks rules.bits hooks) (pointwise same_manifest champions found) second.1 in
+    let first = and_parts _ _ allowed in
+    let second = and_parts _ _ first.1 in
+    let third = and_parts _ _ second.1 in
     record { unfinished = open_unfinished author s past first.0; valid = third.0; greedy = pointwise-true same_manifest same_manifest-true champions found third.1 }
 
 -- a Commit
@@ -143,13 +143,13 @@ pub commit_says : (rules : Rules) (past : List Entry) (author : ℕ) (id : Manif
 unfolding is_allowed
 commit_says rules past author id content text chunks bytes fresh fresh_bytes uses allowed =
     let counts = are_counts chunks bytes fresh fresh_bytes && are_uses id.session past uses in
-    let first = and_parts (is_open_to author id.session past) (is_pending id.session past && (eqb id.seq (commits_of id.session past) && counts)) allowed in
-    let second = and_parts (is_pending id.session past) (eqb id.seq (commits_of id.session past) && counts) first.1 in
-    let third = and_parts (eqb id.seq (commits_of id.session past)) counts second.1 in
-    let fourth = and_parts (are_counts chunks bytes fresh fresh_bytes) (are_uses id.session past uses) third.1 in
+    let first = and_parts _ _ allowed in
+    let second = and_parts _ _ first.1 in
+    let third = and_parts _ _ second.1 in
+    let fourth = and_parts _ _ third.1 in
     record {
       unfinished = open_unfinished author id.session past first.0;
-      next = eqb-true id.seq (commits_of id.session past) third.0;
+      next = eqb-true _ _ third.0;
       counted = fourth.0;
       may_use = fourth.1;
     }

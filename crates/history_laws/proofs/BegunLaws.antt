@@ -47,12 +47,12 @@ begun_once rules s (entry ∷ past) legal =
 
 sight_reader : (seen : Seen) (reader : ℕ) (found : Option ℕ) → option_eq same_seen (Some seen) (option_map (λ session. record { reader = reader; session = session }) found) ≡ true → seen.reader ≡ reader
 sight_reader seen reader None e = absurd (false≢true e)
-sight_reader seen reader (Some s) e = eqb-true seen.reader reader (and_parts (eqb seen.reader reader) (eqb seen.session s) e).0
+sight_reader seen reader (Some s) e = eqb-true _ _ (and_parts _ _ e).0
 
 looks_next : (rules : Rules) (past : List Entry) (author r : ℕ) (point : Point) → is_allowed rules past author point ≡ true → looks r point ≡ true → r ≡ reading_count past
 unfolding looks reading_begun is_allowed reply_to_look
 looks_next rules past author r (Look name None) allowed does = absurd (false≢true does)
-looks_next rules past author r (Look name (Some seen)) allowed does = eqb-true r seen.reader does ∙ sight_reader seen (reading_count past) (retained name past) allowed
+looks_next rules past author r (Look name (Some seen)) allowed does = eqb-true _ _ does ∙ sight_reader seen (reading_count past) (retained name past) allowed
 looks_next rules past author r _ allowed does = absurd (false≢true does)
 
 some_reader : (r : ℕ) (o : Option Seen) → is_number r (option_map (λ (seen : Seen). seen.reader) o) ≡ true → is_some o ≡ true

@@ -33,15 +33,15 @@ few_champions (suc n) lists = elim (round n lists) [
 few_hooks : (bits : ℕ) (hooks : List Name) → are_hooks bits hooks ≡ true → length hooks ≤ 4096
 unfolding are_hooks
 few_hooks bits hooks e =
-    let parts = and_parts (are_distinct hooks) (leb (length hooks) 4096 && list_all (is_hook bits) hooks) e in
-    leb-true (length hooks) 4096 (and_parts (leb (length hooks) 4096) (list_all (is_hook bits) hooks) parts.1).0
+    let parts = and_parts _ _ e in
+    leb-true _ _ (and_parts _ _ parts.1).0
 
 few_uses : (s : ℕ) (past : List Entry) (uses : List ContainerId) → are_uses s past uses ≡ true → length uses ≤ 4096
 unfolding are_uses
 few_uses s past uses e =
     let each = list_all (is_use s (pending_champions s past) past) uses in
-    let parts = and_parts (are_ascending uses) (leb (length uses) 4096 && each) e in
-    leb-true (length uses) 4096 (and_parts (leb (length uses) 4096) each parts.1).0
+    let parts = and_parts _ _ e in
+    leb-true _ _ (and_parts _ _ parts.1).0
 
 pub allowed_bounds : (rules : Rules) (past : List Entry) (author : ℕ) (point : Point) → rules.champions ≤ 255 → is_allowed rules past author point ≡ true → PointIsWithinBounds point
 unfolding champions_for objects_named

@@ -27,7 +27,7 @@ uncovered_in : (id : ManifestId) (stood : List Standing) (lists : List (List Sta
 unfolding uncovered
 uncovered_in id stood lists h =
     let parts = filter_in (λ l. not (stands_in id l)) stood lists h in
-    (parts.0, not-true (stands_in id stood) parts.1)
+    (parts.0, not-true _ parts.1)
 
 pub round : (n : ℕ) (lists : List (List Standing)) → (champions (suc n) lists ≡ []) ⊎ ((s : Standing) × (best lists ≡ Some s) × (champions (suc n) lists ≡ s.id ∷ champions n (uncovered s.id lists)))
 unfolding champions

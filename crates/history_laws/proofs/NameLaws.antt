@@ -20,7 +20,7 @@ holds past s = is_unfinished s past || is_retained s past
 
 -- an entry that does not begin the session does not make it hold its name again
 holds_before : (rules : Rules) (s : ℕ) (entry : Entry) (past : List Entry) → IsStep rules entry past → begins s entry.point ≡ false → holds (entry ∷ past) s ≡ true → holds past s ≡ true
-holds_before rules s entry past now other held = elim (or_cases (is_unfinished s (entry ∷ past)) (is_retained s (entry ∷ past)) held) [
+holds_before rules s entry past now other held = elim (or_cases _ _ held) [
   | inl open_after ↦
       let parts = unfinished_is s (entry ∷ past) open_after in
       or_left (is_unfinished s past) (is_retained s past) (unfinished_from s past (elim (has_cases (begins s) entry past parts.0) [

@@ -85,10 +85,10 @@ pending_none t = refl
 -- a session with a pending choice was begun
 settled_begun : (rules : Rules) (past : List Entry) (author t : ℕ) (id : ManifestId) (point : Point) → is_allowed rules past author point ≡ true → settles t point ≡ true → has_manifest id (unwrap_or (champions_chosen point) []) ≡ true → has (begins t) past ≡ true
 unfolding settles chooses commits aborts champions_chosen has_manifest
-settled_begun rules past author t id (Choose s hooks champions) allowed does h = elim (or_cases (eqb t s) (false || false) does) [
+settled_begun rules past author t id (Choose s hooks champions) allowed does h = elim (or_cases _ _ does) [
   | inl same ↦
       let said = choose_says rules past author s hooks champions allowed in
-      subst (λ n. has (begins n) past ≡ true) (sym (eqb-true t s same)) (unfinished_is s past said.unfinished).0
+      subst (λ n. has (begins n) past ≡ true) (sym (eqb-true _ _ same)) (unfinished_is s past said.unfinished).0
   | inr other ↦ absurd (false≢true other)
 ]
 settled_begun rules past author t id _ allowed does h = absurd (false≢true h)
@@ -104,7 +104,7 @@ pending_begun rules t id (entry ∷ past) legal h =
 
 number_is : (n : ℕ) (o : Option ℕ) → is_number n o ≡ true → o ≡ Some n
 number_is n None e = absurd (false≢true e)
-number_is n (Some m) e = ap Some (sym (eqb-true n m e))
+number_is n (Some m) e = ap Some (sym (eqb-true _ _ e))
 
 begun_listed : (t : ℕ) (past : List Entry) → has (begins t) past ≡ true → In t (sessions past)
 unfolding has begins sessions
@@ -146,8 +146,8 @@ looks_at seen point e = ap (λ (o : Option Seen). is_number seen.reader (option_
 reading_before : (seen : Seen) (began entry : Entry) (past : List Entry) → In began past → reading_begun began.point ≡ Some seen → is_reading seen.reader (entry ∷ past) ≡ true → is_reading seen.reader past ≡ true
 unfolding is_reading
 reading_before seen began entry past h e reads =
-    let parts = and_parts (has (looks seen.reader) (entry ∷ past)) (not (has (ends seen.reader) (entry ∷ past))) reads in
-    let unended = (has_parts (ends seen.reader) entry past (not-true (has (ends seen.reader) (entry ∷ past)) parts.1)).1 in
+    let parts = and_parts _ _ reads in
+    let unended = (has_parts (ends seen.reader) entry past (not-true _ parts.1)).1 in
     and_from (has (looks seen.reader) past) (not (has (ends seen.reader) past)) (has_from (looks seen.reader) began past h (looks_at seen began.point e)) (not_from_false (has (ends seen.reader) past) unended)
 
 -- what is read now was read before, or has the stream that a Look found
@@ -156,8 +156,8 @@ unfolding is_being_read readings
 read_before rules s entry past now h =
     let found = any_in (λ (seen : Seen). eqb seen.session s && is_reading seen.reader (entry ∷ past)) (readings (entry ∷ past)) h in
     let seen = found.0 in
-    let parts = and_parts (eqb seen.session s) (is_reading seen.reader (entry ∷ past)) found.2 in
-    let same : seen.session ≡ s = eqb-true seen.session s parts.0 in
+    let parts = and_parts _ _ found.2 in
+    let same : seen.session ≡ s = eqb-true _ _ parts.0 in
     let from = filter_map_in (λ (e : Entry). reading_begun e.point) seen (entry ∷ past) found.1 in
     elim from.1 [
       | inl here ↦ inr (subst (λ n. is_retained n past ≡ true) same (sight_retained rules past entry.author seen entry.point now.allowed (ap (λ (e : Entry). reading_begun e.point) here ∙ from.2)))
@@ -213,7 +213,7 @@ retained_before rules s entry past now closed kept =
 
 pinned_before : (rules : Rules) (id : ManifestId) (entry : Entry) (past : List Entry) → IsStep rules entry past → has (closes id.session) past ≡ true → is_pinned id (entry ∷ past) ≡ true → (is_pinned id past ≡ true) ⊎ (is_retained id.session past ≡ true)
 unfolding is_pinned
-pinned_before rules id entry past now closed pinned = elim (or_cases (is_champion id (entry ∷ past)) (is_being_read id.session (entry ∷ past)) pinned) [
+pinned_before rules id entry past now closed pinned = elim (or_cases _ _ pinned) [
   | inl champion ↦ elim (champion_before rules id entry past now champion) [
     | inl older ↦ inl (champion_pinned id past older)
     | inr at ↦ inr (stands_retained rules id past now.legal closed at)
@@ -235,11 +235,11 @@ live_before : (rules : Rules) (id : ManifestId) (entry : Entry) (past : List Ent
 unfolding is_live
 live_before rules id entry past now closed live =
     let new = entry ∷ past in
-    let parts = and_parts (has (commits_manifest id) new) (is_unfinished id.session new || (is_retained id.session new || is_pinned id new)) live in
+    let parts = and_parts _ _ live in
     let committed = committed_before rules id entry past now closed parts.0 in
-    elim (or_cases (is_unfinished id.session new) (is_retained id.session new || is_pinned id new) parts.1) [
+    elim (or_cases _ _ parts.1) [
       | inl open_now ↦ absurd (both_ways (is_unfinished id.session new) (closed_not_unfinished id.session new (has_older (closes id.session) entry past closed)) open_now)
-      | inr cause ↦ elim (or_cases (is_retained id.session new) (is_pinned id new) cause) [
+      | inr cause ↦ elim (or_cases _ _ cause) [
         | inl kept ↦ live_retained id past committed (retained_before rules id.session entry past now closed kept)
         | inr pinned ↦ elim (pinned_before rules id entry past now closed pinned) [
           | inl older ↦ live_pinned id past committed older
@@ -271,7 +271,7 @@ pub record IsLiveUse (id : ContainerId) (past : List Entry) (point : Point) : Ty
 live_use : (id : ContainerId) (past : List Entry) (point : Point) → uses_live id past point ≡ true → IsLiveUse id past point
 unfolding uses_live commits_manifest lists_use
 live_use id past (Commit manifest content text chunks bytes fresh fresh_bytes uses) e =
-    let parts = and_parts (has_container id uses) (is_live manifest past) e in
+    let parts = and_parts _ _ e in
     record {
       manifest = manifest;
       commits = same_manifest-self manifest;
@@ -283,14 +283,14 @@ live_use id past _ e = absurd (false≢true e)
 uses_live_from : (id : ContainerId) (past : List Entry) (manifest : ManifestId) (point : Point) → lists_use manifest id point ≡ true → is_live manifest past ≡ true → uses_live id past point ≡ true
 unfolding uses_live lists_use
 uses_live_from id past manifest (Commit other content text chunks bytes fresh fresh_bytes uses) e live =
-    let parts = and_parts (same_manifest manifest other) (has_container id uses) e in
+    let parts = and_parts _ _ e in
     let same : manifest ≡ other = same_manifest-true manifest other parts.0 in
     and_from (has_container id uses) (is_live other past) parts.1 (subst (λ (m : ManifestId). is_live m past ≡ true) same live)
 uses_live_from id past manifest _ e live = absurd (false≢true e)
 
 lists_commits : (id : ContainerId) (manifest : ManifestId) (point : Point) → lists_use manifest id point ≡ true → commits_manifest manifest point ≡ true
 unfolding lists_use commits_manifest
-lists_commits id manifest (Commit other content text chunks bytes fresh fresh_bytes uses) e = (and_parts (same_manifest manifest other) (has_container id uses) e).0
+lists_commits id manifest (Commit other content text chunks bytes fresh fresh_bytes uses) e = (and_parts _ _ e).0
 lists_commits id manifest _ e = absurd (false≢true e)
 
 -- a use of a pending champion is needed
@@ -308,12 +308,12 @@ champion_use rules t id past legal used =
 use_cases : (rules : Rules) (s : ℕ) (id : ContainerId) (uses : List ContainerId) (past : List Entry) → is_legal rules past ≡ true → are_uses s past uses ≡ true → has_container id uses ≡ true → (id.session ≡ s) ⊎ (is_needed id past ≡ true)
 unfolding are_uses has_container is_use
 use_cases rules s id uses past legal may used =
-    let all = (and_parts (leb (length uses) 4096) (list_all (is_use s (pending_champions s past) past) uses) (and_parts (are_ascending uses) (leb (length uses) 4096 && list_all (is_use s (pending_champions s past) past) uses) may).1).1 in
+    let all = (and_parts _ _ (and_parts _ _ may).1).1 in
     let found = any_in (same_container id) uses used in
     let here = all_in (is_use s (pending_champions s past) past) found.0 uses found.1 all in
     let same : id ≡ found.0 = same_container-true id found.0 found.2 in
-    elim (or_cases (eqb found.0.session s && ltb found.0.ordinal 4294967295) (is_use_of_any (pending_champions s past) past found.0) here) [
-      | inl own ↦ inl (ap (λ (c : ContainerId). c.session) same ∙ eqb-true found.0.session s (and_parts (eqb found.0.session s) (ltb found.0.ordinal 4294967295) own).0)
+    elim (or_cases _ _ here) [
+      | inl own ↦ inl (ap (λ (c : ContainerId). c.session) same ∙ eqb-true _ _ (and_parts _ _ own).0)
       | inr lent ↦ inr (subst (λ (c : ContainerId). is_needed c past ≡ true) (sym same) (champion_use rules s found.0 past legal lent))
     ]
 
@@ -322,7 +322,7 @@ used_before : (rules : Rules) (past : List Entry) (author : ℕ) (id : Container
 unfolding lists_use
 used_before rules past author id manifest (Commit other content text chunks bytes fresh fresh_bytes uses) legal allowed closed e =
     let said = commit_says rules past author other content text chunks bytes fresh fresh_bytes uses allowed in
-    elim (use_cases rules other.session id uses past legal said.may_use (and_parts (same_manifest manifest other) (has_container id uses) e).1) [
+    elim (use_cases rules other.session id uses past legal said.may_use (and_parts _ _ e).1) [
       | inl own ↦ absurd (both_ways (is_unfinished id.session past) (closed_not_unfinished id.session past closed) (subst (λ n. is_unfinished n past ≡ true) (sym own) said.unfinished))
       | inr needed ↦ needed
     ]
@@ -333,7 +333,7 @@ needed_before : (rules : Rules) (id : ContainerId) (entry : Entry) (past : List 
 unfolding is_needed has
 needed_before rules id entry past now closed needed =
     let new = entry ∷ past in
-    elim (or_cases (is_unfinished id.session new) (has (uses_live id new) new) needed) [
+    elim (or_cases _ _ needed) [
       | inl open_now ↦ absurd (both_ways (is_unfinished id.session new) (closed_not_unfinished id.session new (has_older (closes id.session) entry past closed)) open_now)
       | inr used ↦
           let at = any_in (λ (e : Entry). uses_live id new e.point) new used in

@@ -93,8 +93,8 @@ pub erasable_parts : (object : Object) (past : List Entry) → In object (erasab
 unfolding erasable is_erasable
 erasable_parts object past h =
     let parts = filter_in (λ o. is_erasable o past) object (known past) h in
-    let both = and_parts (not (has (reclaims object) past)) (not (is_wanted object past)) parts.1 in
-    (known_closed object past parts.0, not-true (is_wanted object past) both.1)
+    let both = and_parts _ _ parts.1 in
+    (known_closed object past parts.0, not-true _ both.1)
 
 pub never_wanted : (rules : Rules) (newer older : List Entry) (object : Object) → is_legal rules (newer ++ older) ≡ true → IsOfClosed older object → is_wanted object older ≡ false → is_wanted object (newer ++ older) ≡ false
 unfolding is_wanted
@@ -134,7 +134,7 @@ reclaimed_before rules object entry past legal named =
     let now = step rules entry past legal in
     let listed = reclaims_erasable rules past entry.author object entry.point now.allowed named in
     let parts = filter_in (λ o. is_erasable o past) object (known past) listed in
-    not-true (has (reclaims object) past) (and_parts (not (has (reclaims object) past)) (not (is_wanted object past)) parts.1).0
+    not-true _ (and_parts _ _ parts.1).0
 
 -- the objects of one kind of each session: each is of the session, and has a number there
 abbrev AreOf : (ℕ → ℕ → Object) → Type 0

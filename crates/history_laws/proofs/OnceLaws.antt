@@ -144,6 +144,6 @@ same_stamps rules past a b legal first second =
     let is : b.id ≡ a.id = sym (same_manifest-true a.id b.id same) in
     eq-eqb a.stamp b.stamp (committed_once rules a.id a.stamp b.stamp past legal ca (subst (λ (m : ManifestId). IsCommitOf m b.stamp past) is cb)))
     (λ level.
-    let is : a.stamp ≡ b.stamp = eqb-true a.stamp b.stamp level in
+    let is : a.stamp ≡ b.stamp = eqb-true _ _ level in
     let one : a.id ≡ b.id = same_commit a.id b.id b.stamp past (subst (λ k. IsCommitOf a.id k past) is ca) cb in
     subst (λ (m : ManifestId). same_manifest a.id m ≡ true) one (same_manifest-self a.id))

@@ -26,12 +26,12 @@ pub record IsOther (s : ℕ) (point : Point) : Type 0 where
 pub other_session : (s : ℕ) (point : Point) → concerns_session s point ≡ false → IsOther s point
 unfolding concerns_session settles closes
 other_session s point none =
-    let first = or_parts (begins s point) (settles s point || (closes s point || deletes s point)) none in
-    let second = or_parts (settles s point) (closes s point || deletes s point) first.1 in
-    let third = or_parts (closes s point) (deletes s point) second.1 in
-    let settle = or_parts (chooses s point) (commits s point || aborts s point) second.0 in
-    let commit = or_parts (commits s point) (aborts s point) settle.1 in
-    let close = or_parts (finishes s point) (aborts s point) third.0 in
+    let first = or_parts _ _ none in
+    let second = or_parts _ _ first.1 in
+    let third = or_parts _ _ second.1 in
+    let settle = or_parts _ _ second.0 in
+    let commit = or_parts _ _ settle.1 in
+    let close = or_parts _ _ third.0 in
     record { begun = first.0; chosen = settle.0; committed = commit.0; aborted = commit.1; finished = close.0; settled = second.0; closed = third.0; deleted = third.1 }
 
 newest_same : (does : Point → Bool) (entry : Entry) (past : List Entry) → does entry.point ≡ false → newest does (entry ∷ past) ≡ newest does past
@@ -63,7 +63,7 @@ unfolding pending
 pending_kept s entry past other = ap (λ o. option_and_then (λ (e : Entry). champions_chosen e.point) o) (newest_same (settles s) entry past other.settled)
 
 turned : (a b : ℕ) → eqb b a ≡ false → eqb a b ≡ false
-turned a b other = false_from_ne_true (eqb a b) (λ same. both_ways (eqb b a) other (eq-eqb b a (sym (eqb-true a b same))))
+turned a b other = false_from_ne_true (eqb a b) (λ same. both_ways (eqb b a) other (eq-eqb b a (sym (eqb-true _ _ same))))
 
 least_max : (n : ℕ) → max 0 n ≡ n
 least_max n = omega arith
@@ -81,7 +81,7 @@ ends_same s entry past other = ap (λ n. max n (own_end s past)) (no_use s entry
 
 pub other_reading : (r : ℕ) (point : Point) → concerns_reading r point ≡ false → (looks r point ≡ false) × (ends r point ≡ false)
 unfolding concerns_reading
-other_reading r point none = or_parts (looks r point) (ends r point) none
+other_reading r point none = or_parts _ _ none
 
 pub reading_same : (r : ℕ) (entry : Entry) (past : List Entry) → concerns_reading r entry.point ≡ false → is_reading r (entry ∷ past) ≡ is_reading r past
 unfolding is_reading

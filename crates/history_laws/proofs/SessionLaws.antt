@@ -18,7 +18,7 @@ use Rattle.history_laws.proofs.Allowed.{step, deletes_retained, begins_next, com
 -- the newest entry does it, or an older one
 pub has_cases : (does : Point → Bool) (entry : Entry) (past : List Entry) → has does (entry ∷ past) ≡ true → (does entry.point ≡ true) ⊎ (has does past ≡ true)
 unfolding has
-has_cases does entry past some = or_cases (does entry.point) (has does past) some
+has_cases does entry past some = or_cases _ _ some
 
 pub has_now : (does : Point → Bool) (entry : Entry) (past : List Entry) → does entry.point ≡ true → has does (entry ∷ past) ≡ true
 unfolding has
@@ -41,7 +41,7 @@ has_not does entry past other none = has_same does entry past other ∙ none
 
 pub has_parts : (does : Point → Bool) (entry : Entry) (past : List Entry) → has does (entry ∷ past) ≡ false → (does entry.point ≡ false) × (has does past ≡ false)
 unfolding has
-has_parts does entry past none = or_parts (does entry.point) (has does past) none
+has_parts does entry past none = or_parts _ _ none
 
 -- an entry of the history does it
 pub has_from : (does : Point → Bool) (entry : Entry) (past : List Entry) → In entry past → does entry.point ≡ true → has does past ≡ true
@@ -59,8 +59,8 @@ has_weaker p q past implies some =
 pub unfinished_is : (s : ℕ) (past : List Entry) → is_unfinished s past ≡ true → (has (begins s) past ≡ true) × (has (closes s) past ≡ false)
 unfolding is_unfinished
 unfinished_is s past open_now =
-    let parts = and_parts (has (begins s) past) (not (has (closes s) past)) open_now in
-    (parts.0, not-true (has (closes s) past) parts.1)
+    let parts = and_parts _ _ open_now in
+    (parts.0, not-true _ parts.1)
 
 pub unfinished_from : (s : ℕ) (past : List Entry) → has (begins s) past ≡ true → has (closes s) past ≡ false → is_unfinished s past ≡ true
 unfolding is_unfinished
@@ -73,8 +73,8 @@ closed_not_unfinished s past closed = and_right (has (begins s) past) (not (has 
 pub retained_parts : (s : ℕ) (past : List Entry) → is_retained s past ≡ true → (has (finishes s) past ≡ true) × (has (deletes s) past ≡ false)
 unfolding is_retained
 retained_parts s past kept =
-    let parts = and_parts (has (finishes s) past) (not (has (deletes s) past)) kept in
-    (parts.0, not-true (has (deletes s) past) parts.1)
+    let parts = and_parts _ _ kept in
+    (parts.0, not-true _ parts.1)
 
 pub retained_from : (s : ℕ) (past : List Entry) → has (finishes s) past ≡ true → has (deletes s) past ≡ false → is_retained s past ≡ true
 unfolding is_retained
@@ -99,7 +99,7 @@ pub closed_cases : (s : ℕ) (past : List Entry) → has (closes s) past ≡ tru
 unfolding has closes
 closed_cases s past closed =
     let found = any_in (λ (entry : Entry). closes s entry.point) past closed in
-    elim (or_cases (finishes s found.0.point) (aborts s found.0.point) found.2) [
+    elim (or_cases _ _ found.2) [
       | inl finish ↦ inl (in_any (λ (entry : Entry). finishes s entry.point) found.0 past found.1 finish)
       | inr abort ↦ inr (in_any (λ (entry : Entry). aborts s entry.point) found.0 past found.1 abort)
     ]
@@ -137,7 +137,7 @@ begins_begins_some s point does = some_number s (session_begun point) does
 
 commits_manifest_commits : (id : ManifestId) (point : Point) → commits_manifest id point ≡ true → commits id.session point ≡ true
 unfolding commits_manifest commits
-commits_manifest_commits id (Commit other content text chunks bytes fresh fresh_bytes uses) does = (and_parts (eqb id.session other.session) (eqb id.seq other.seq) does).0
+commits_manifest_commits id (Commit other content text chunks bytes fresh fresh_bytes uses) does = (and_parts _ _ does).0
 commits_manifest_commits id _ does = absurd (false≢true does)
 
 count_older : (p : Entry → Bool) (entry : Entry) (past : List Entry) → count_by p past ≤ count_by p (entry ∷ past)

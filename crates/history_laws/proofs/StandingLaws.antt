@@ -73,7 +73,7 @@ pub others_in : (x : Standing) (chosen : List ManifestId) (stood : List Standing
 unfolding others_standing
 others_in x chosen stood h =
     let parts = filter_in (λ (s : Standing). not (has_manifest s.id chosen)) x stood h in
-    (parts.0, not-true (has_manifest x.id chosen) parts.1)
+    (parts.0, not-true _ parts.1)
 
 pub promoted_in : (x : Standing) (chosen : List ManifestId) (stood : List Standing) → In x (promoted chosen stood) → In x stood
 unfolding promoted
@@ -90,7 +90,7 @@ pub without_in : (x : Standing) (s : ℕ) (stood : List Standing) → In x (with
 unfolding without_session
 without_in x s stood h =
     let parts = filter_in (λ (t : Standing). not (eqb t.id.session s)) x stood h in
-    (parts.0, not-true (eqb x.id.session s) parts.1)
+    (parts.0, not-true _ parts.1)
 
 -- an item of one of two lists
 pub chosen_by : (b : Bool) (x : Standing) (xs ys : List Standing) → In x (cond b xs ys) → In x xs ⊎ In x ys
