@@ -130,7 +130,7 @@ choose_says rules past author s hooks champions allowed =
     let first = and_parts _ _ allowed in
     let second = and_parts _ _ first.1 in
     let third = and_parts _ _ second.1 in
-    record { unfinished = open_unfinished author s past first.0; valid = third.0; greedy = pointwise-true same_manifest same_manifest-true champions found third.1 }
+    record { unfinished = open_unfinished author s past first.0; valid = third.0; greedy = pointwise-true same_manifest same_manifest-true _ _ third.1 }
 
 -- a Commit
 pub record IsCommitted (id : ManifestId) (chunks bytes fresh fresh_bytes : ℕ) (uses : List ContainerId) (past : List Entry) : Type 0 where
@@ -159,6 +159,6 @@ pub commits_next : (rules : Rules) (past : List Entry) (author : ℕ) (id : Mani
 unfolding commits_manifest
 commits_next rules past author id (Commit other content text chunks bytes fresh fresh_bytes uses) allowed does =
     let said = commit_says rules past author other content text chunks bytes fresh fresh_bytes uses allowed in
-    let same : id ≡ other = same_manifest-true id other does in
+    let same : id ≡ other = same_manifest-true _ _ does in
     subst (λ (m : ManifestId). (is_unfinished m.session past ≡ true) × (m.seq ≡ commits_of m.session past)) (sym same) (said.unfinished, said.next)
 commits_next rules past author id _ allowed does = absurd (false≢true does)

@@ -33,7 +33,7 @@ begun_once rules s (entry ∷ past) legal =
     elim (cases_Bool (begins s entry.point)) [
       | inl here ↦
           let next : s ≡ session_count past = begins_next rules past entry.author s entry.point now.allowed here in
-          let unbegun : has (begins s) past ≡ false = false_from_ne_true (has (begins s) past) (λ begun.
+          let unbegun : has (begins s) past ≡ false = false_from_ne_true _ (λ begun.
             let below = begun_below rules s past now.legal begun in
             absurd (omega (arith, below, next))) in
           let none = unbegun_count (begins s) past unbegun in
@@ -66,7 +66,7 @@ looks_looks_some r point does = some_reader r (reading_begun point) does
 -- readings have the numbers below their count
 looked_below : (rules : Rules) (r : ℕ) (past : List Entry) → is_legal rules past ≡ true → has (looks r) past ≡ true → r < reading_count past
 unfolding reading_count
-looked_below rules r [] legal looked = absurd (both_ways (has (looks r) []) (has_none (looks r)) looked)
+looked_below rules r [] legal looked = absurd (both_ways _ (has_none (looks r)) looked)
 looked_below rules r (entry ∷ past) legal looked =
     let now = step rules entry past legal in
     let p = λ (e : Entry). looks_some e.point in
@@ -91,7 +91,7 @@ looked_once rules r (entry ∷ past) legal =
     elim (cases_Bool (looks r entry.point)) [
       | inl here ↦
           let next : r ≡ reading_count past = looks_next rules past entry.author r entry.point now.allowed here in
-          let unlooked : has (looks r) past ≡ false = false_from_ne_true (has (looks r) past) (λ looked.
+          let unlooked : has (looks r) past ≡ false = false_from_ne_true _ (λ looked.
             let below = looked_below rules r past now.legal looked in
             absurd (omega (arith, below, next))) in
           let none = unbegun_count (looks r) past unlooked in

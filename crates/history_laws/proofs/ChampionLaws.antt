@@ -58,10 +58,10 @@ champions_apart zero lists = rw (no_rounds lists) tt
 champions_apart (suc n) lists = elim (round n lists) [
   | inl none ↦ rw none tt
   | inr (s, first, more) ↦ rw more (
-    (λ id later. false_from_ne_true (same_manifest s.id id) (λ same.
+    (λ id later. false_from_ne_true _ (λ same.
         let rest = champion_stands n (uncovered s.id lists) id later in
-        let here = subst (λ (m : ManifestId). stands_in m rest.stood ≡ true) (sym (same_manifest-true s.id id same)) rest.stands in
-        both_ways (stands_in s.id rest.stood) (uncovered_in s.id rest.stood lists rest.listed).1 here)),
+        let here = subst (λ (m : ManifestId). stands_in m rest.stood ≡ true) (sym (same_manifest-true _ _ same)) rest.stands in
+        both_ways _ (uncovered_in s.id rest.stood lists rest.listed).1 here)),
     champions_apart n (uncovered s.id lists),
   )
 ]

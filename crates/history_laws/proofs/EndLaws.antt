@@ -42,7 +42,7 @@ begins_none t point none = ap (is_number t) none
 
 still_open : (t : ℕ) (entry : Entry) (past : List Entry) → session_begun entry.point ≡ None → is_unfinished t (entry ∷ past) ≡ true → is_unfinished t past ≡ true
 still_open t entry past none open_now =
-    let parts = unfinished_is t (entry ∷ past) open_now in
+    let parts = unfinished_is _ _ open_now in
     unfinished_from t past (sym (has_same (begins t) entry past (begins_none t entry.point none)) ∙ parts.0) (has_parts (closes t) entry past parts.1).1
 
 open_at : (entry : Entry) (past : List Entry) (o : Option ℕ) → session_begun entry.point ≡ None → option_map_or (λ t. is_unfinished t (entry ∷ past)) o false ≡ true → option_map_or (λ t. is_unfinished t past) o false ≡ true
@@ -68,7 +68,7 @@ session_fewer s entry past none ended open_before =
     let newer = λ (e : Entry). option_map_or (λ t. is_unfinished t (entry ∷ past)) (session_begun e.point) false in
     let older = λ (e : Entry). option_map_or (λ t. is_unfinished t past) (session_begun e.point) false in
     let same = count_other newer entry past (ap (λ o. option_map_or (λ t. is_unfinished t (entry ∷ past)) o false) none) in
-    let begun = any_in (λ (e : Entry). is_number s (session_begun e.point)) past (unfinished_is s past open_before).0 in
+    let begun = any_in (λ (e : Entry). is_number s (session_begun e.point)) past (unfinished_is _ _ open_before).0 in
     let is = number_some s (session_begun begun.0.point) begun.2 in
     let closed = ap (λ o. option_map_or (λ t. is_unfinished t (entry ∷ past)) o false) is ∙ closed_not_unfinished s (entry ∷ past) (has_now (closes s) entry past ended) in
     let opened = ap (λ o. option_map_or (λ t. is_unfinished t past) o false) is ∙ open_before in
@@ -83,11 +83,11 @@ reading_parts r past open_now = let parts = and_parts (has (looks r) past) _ ope
 
 reading_from : (r : ℕ) (past : List Entry) → has (looks r) past ≡ true → has (ends r) past ≡ false → is_reading r past ≡ true
 unfolding is_reading
-reading_from r past looked open_still = and_from (has (looks r) past) _ looked (not_from_false (has (ends r) past) open_still)
+reading_from r past looked open_still = and_from (has (looks r) past) _ looked (not_from_false _ open_still)
 
 ended_not_reading : (r : ℕ) (past : List Entry) → has (ends r) past ≡ true → is_reading r past ≡ false
 unfolding is_reading
-ended_not_reading r past ended = and_right (has (looks r) past) _ (not_from_true (has (ends r) past) ended)
+ended_not_reading r past ended = and_right _ _ (not_from_true _ ended)
 
 looks_none : (r : ℕ) (point : Point) → reading_begun point ≡ None → looks r point ≡ false
 unfolding looks
@@ -162,7 +162,7 @@ end_of_session_fits rules s entry past legal open_now ended =
     let sessions = session_fewer s entry past end.session ended open_now in
     let readings = readings_fewer entry past end.reading in
     elim (legal_within rules past legal) [
-      | inl none ↦ absurd (both_ways (has (begins s) past) (ap (has (begins s)) none ∙ has_none (begins s)) (unfinished_is s past open_now).0)
+      | inl none ↦ absurd (both_ways _ (ap (has (begins s)) none ∙ has_none (begins s)) (unfinished_is _ _ open_now).0)
       | inr within ↦ fits rules.limits entry past end.weight within (omega (arith, sessions, readings))
     ]
 
@@ -172,6 +172,6 @@ end_of_reading_fits rules r entry past legal open_now ended =
     let sessions = sessions_fewer entry past end.session in
     let readings = reading_fewer r entry past end.reading ended open_now in
     elim (legal_within rules past legal) [
-      | inl none ↦ absurd (both_ways (has (looks r) past) (ap (has (looks r)) none ∙ has_none (looks r)) (reading_parts r past open_now).0)
+      | inl none ↦ absurd (both_ways _ (ap (has (looks r)) none ∙ has_none (looks r)) (reading_parts r past open_now).0)
       | inr within ↦ fits rules.limits entry past end.weight within (omega (arith, sessions, readings))
     ]

@@ -42,12 +42,12 @@ unfolding chosen_standings has_manifest
 few_step id ids stood None e distinct rest = rw e (let fewer = fewer_chosen id ids stood in omega (arith, rest, fewer))
 few_step id ids stood (Some x) e distinct rest =
     let at = standing_of_in id x stood e in
-    let same : id ≡ x.id = same_manifest-true id x.id at.1 in
-    let absent : has_manifest x.id ids ≡ false = false_from_ne_true (has_manifest x.id ids) (λ has.
+    let same : id ≡ x.id = same_manifest-true _ _ at.1 in
+    let absent : has_manifest x.id ids ≡ false = false_from_ne_true _ (λ has.
       let found = any_in (same_manifest x.id) ids has in
-      let other : id ≡ found.0 = same ∙ same_manifest-true x.id found.0 found.2 in
+      let other : id ≡ found.0 = same ∙ same_manifest-true _ _ found.2 in
       let itself : same_manifest id found.0 ≡ true = subst (λ (m : ManifestId). same_manifest id m ≡ true) other (same_manifest-self id) in
-      both_ways (same_manifest id found.0) (distinct.0 found.0 found.1) itself) in
+      both_ways _ (distinct.0 found.0 found.1) itself) in
     let itself : same_manifest x.id id ≡ true = subst (λ (m : ManifestId). same_manifest x.id m ≡ true) (sym same) (same_manifest-self x.id) in
     let more = count_more (λ (s : Standing). has_manifest s.id ids) (λ (s : Standing). has_manifest s.id (id ∷ ids)) x stood at.0 absent (or_left (same_manifest x.id id) (has_manifest x.id ids) itself) (λ s h has. or_right (same_manifest s.id id) (has_manifest s.id ids) has) in
     rw e (omega (arith, rest, more))

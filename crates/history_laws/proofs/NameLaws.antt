@@ -22,13 +22,13 @@ holds past s = is_unfinished s past || is_retained s past
 holds_before : (rules : Rules) (s : ℕ) (entry : Entry) (past : List Entry) → IsStep rules entry past → begins s entry.point ≡ false → holds (entry ∷ past) s ≡ true → holds past s ≡ true
 holds_before rules s entry past now other held = elim (or_cases _ _ held) [
   | inl open_after ↦
-      let parts = unfinished_is s (entry ∷ past) open_after in
+      let parts = unfinished_is _ _ open_after in
       or_left (is_unfinished s past) (is_retained s past) (unfinished_from s past (elim (has_cases (begins s) entry past parts.0) [
-        | inl here ↦ absurd (both_ways (begins s entry.point) other here)
+        | inl here ↦ absurd (both_ways _ other here)
         | inr older ↦ older
       ]) (has_parts (closes s) entry past parts.1).1)
   | inr kept ↦
-      let parts = retained_parts s (entry ∷ past) kept in
+      let parts = retained_parts _ _ kept in
       elim (has_cases (finishes s) entry past parts.0) [
         | inl here ↦ or_left (is_unfinished s past) (is_retained s past) (finishes_open rules past entry.author s entry.point now.allowed here)
         | inr older ↦ or_right (is_unfinished s past) (is_retained s past) (retained_from s past older (has_parts (deletes s) entry past parts.1).1)
@@ -83,7 +83,7 @@ free_none name past free = free
 
 -- an entry begins no session that began before
 begun_once : (rules : Rules) (s : ℕ) (entry : Entry) (past : List Entry) → IsStep rules entry past → has (begins s) past ≡ true → begins s entry.point ≡ false
-begun_once rules s entry past now begun = false_from_ne_true (begins s entry.point) (λ here.
+begun_once rules s entry past now begun = false_from_ne_true _ (λ here.
     let next : s ≡ session_count past = begins_next rules past entry.author s entry.point now.allowed here in
     let below : s < session_count past = begun_below rules s past now.legal begun in
     absurd (omega (arith, next, below)))
@@ -102,8 +102,8 @@ held_once rules name (entry ∷ past) legal =
       | inr (s, here) ↦
           let free = free_none name past (under_free rules past entry.author name s entry.point now.allowed here) in
           let none : list_any (holds (entry ∷ past)) (sessions_under name past) ≡ false =
-          none_from (holds (entry ∷ past)) (sessions_under name past) (λ t h. false_from_ne_true (holds (entry ∷ past) t) (λ held.
-          both_ways (holds past t) (none_in (holds past) t (sessions_under name past) h free) (earlier t h held))) in
+          none_from (holds (entry ∷ past)) (sessions_under name past) (λ t h. false_from_ne_true _ (λ held.
+          both_ways _ (none_in (holds past) t (sessions_under name past) h free) (earlier t h held))) in
           let zero_left = count_none (holds (entry ∷ past)) (sessions_under name past) none in
           rw (sessions_one name s entry past here) (elim (cases_Bool (holds (entry ∷ past) s)) [
             | inl held ↦ let more = count_one (holds (entry ∷ past)) s (sessions_under name past) held in omega (arith, more, zero_left)

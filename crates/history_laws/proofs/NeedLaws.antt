@@ -41,7 +41,7 @@ pub listed_manifest : (id : ManifestId) (ids : List ManifestId) → has_manifest
 unfolding has_manifest
 listed_manifest id ids h =
     let found = any_in (same_manifest id) ids h in
-    subst (λ (m : ManifestId). In m ids) (sym (same_manifest-true id found.0 found.2)) found.1
+    subst (λ (m : ManifestId). In m ids) (sym (same_manifest-true _ _ found.2)) found.1
 
 manifest_listed : (id : ManifestId) (ids : List ManifestId) → In id ids → has_manifest id ids ≡ true
 unfolding has_manifest
@@ -58,7 +58,7 @@ champion_somewhere rules hooks past id h =
       hook = hook.0;
       stands = stands.0;
       listed = subst (λ (l : List Standing). In stands.0 l) (sym hook.2) stands.1;
-      same = same_manifest-true id stands.0.id stands.2;
+      same = same_manifest-true _ _ stands.2;
     }
 
 -- the champions of a choice that is allowed stand somewhere
@@ -88,7 +88,7 @@ unfolding settles chooses commits aborts champions_chosen has_manifest
 settled_begun rules past author t id (Choose s hooks champions) allowed does h = elim (or_cases _ _ does) [
   | inl same ↦
       let said = choose_says rules past author s hooks champions allowed in
-      subst (λ n. has (begins n) past ≡ true) (sym (eqb-true _ _ same)) (unfinished_is s past said.unfinished).0
+      subst (λ n. has (begins n) past ≡ true) (sym (eqb-true _ _ same)) (unfinished_is _ _ said.unfinished).0
   | inr other ↦ absurd (false≢true other)
 ]
 settled_begun rules past author t id _ allowed does h = absurd (false≢true h)
@@ -148,7 +148,7 @@ unfolding is_reading
 reading_before seen began entry past h e reads =
     let parts = and_parts _ _ reads in
     let unended = (has_parts (ends seen.reader) entry past (not-true _ parts.1)).1 in
-    and_from (has (looks seen.reader) past) (not (has (ends seen.reader) past)) (has_from (looks seen.reader) began past h (looks_at seen began.point e)) (not_from_false (has (ends seen.reader) past) unended)
+    and_from (has (looks seen.reader) past) (not (has (ends seen.reader) past)) (has_from (looks seen.reader) began past h (looks_at seen began.point e)) (not_from_false _ unended)
 
 -- what is read now was read before, or has the stream that a Look found
 read_before : (rules : Rules) (s : ℕ) (entry : Entry) (past : List Entry) → IsStep rules entry past → is_being_read s (entry ∷ past) ≡ true → (is_being_read s past ≡ true) ⊎ (is_retained s past ≡ true)
@@ -200,14 +200,14 @@ stands_retained rules id past legal closed at =
     let undeleted = subst (λ (m : ManifestId). has (deletes m.session) past ≡ false) (sym at.same) may.undeleted in
     elim (closed_cases id.session past closed) [
       | inl finished ↦ retained_from id.session past finished undeleted
-      | inr aborted ↦ absurd (both_ways (has (aborts id.session) past) unaborted aborted)
+      | inr aborted ↦ absurd (both_ways _ unaborted aborted)
     ]
 
 retained_before : (rules : Rules) (s : ℕ) (entry : Entry) (past : List Entry) → IsStep rules entry past → has (closes s) past ≡ true → is_retained s (entry ∷ past) ≡ true → is_retained s past ≡ true
 retained_before rules s entry past now closed kept =
-    let parts = retained_parts s (entry ∷ past) kept in
+    let parts = retained_parts _ _ kept in
     elim (has_cases (finishes s) entry past parts.0) [
-      | inl here ↦ absurd (both_ways (is_unfinished s past) (closed_not_unfinished s past closed) (finishes_open rules past entry.author s entry.point now.allowed here))
+      | inl here ↦ absurd (both_ways _ (closed_not_unfinished s past closed) (finishes_open rules past entry.author s entry.point now.allowed here))
       | inr older ↦ retained_from s past older (has_parts (deletes s) entry past parts.1).1
     ]
 
@@ -226,7 +226,7 @@ pinned_before rules id entry past now closed pinned = elim (or_cases _ _ pinned)
 
 committed_before : (rules : Rules) (id : ManifestId) (entry : Entry) (past : List Entry) → IsStep rules entry past → has (closes id.session) past ≡ true → has (commits_manifest id) (entry ∷ past) ≡ true → has (commits_manifest id) past ≡ true
 committed_before rules id entry past now closed committed = elim (has_cases (commits_manifest id) entry past committed) [
-  | inl here ↦ absurd (both_ways (is_unfinished id.session past) (closed_not_unfinished id.session past closed) (commits_next rules past entry.author id entry.point now.allowed here).0)
+  | inl here ↦ absurd (both_ways _ (closed_not_unfinished id.session past closed) (commits_next rules past entry.author id entry.point now.allowed here).0)
   | inr older ↦ older
 ]
 
@@ -238,7 +238,7 @@ live_before rules id entry past now closed live =
     let parts = and_parts _ _ live in
     let committed = committed_before rules id entry past now closed parts.0 in
     elim (or_cases _ _ parts.1) [
-      | inl open_now ↦ absurd (both_ways (is_unfinished id.session new) (closed_not_unfinished id.session new (has_older (closes id.session) entry past closed)) open_now)
+      | inl open_now ↦ absurd (both_ways _ (closed_not_unfinished id.session new (has_older (closes id.session) entry past closed)) open_now)
       | inr cause ↦ elim (or_cases _ _ cause) [
         | inl kept ↦ live_retained id past committed (retained_before rules id.session entry past now closed kept)
         | inr pinned ↦ elim (pinned_before rules id entry past now closed pinned) [
@@ -284,7 +284,7 @@ uses_live_from : (id : ContainerId) (past : List Entry) (manifest : ManifestId) 
 unfolding uses_live lists_use
 uses_live_from id past manifest (Commit other content text chunks bytes fresh fresh_bytes uses) e live =
     let parts = and_parts _ _ e in
-    let same : manifest ≡ other = same_manifest-true manifest other parts.0 in
+    let same : manifest ≡ other = same_manifest-true _ _ parts.0 in
     and_from (has_container id uses) (is_live other past) parts.1 (subst (λ (m : ManifestId). is_live m past ≡ true) same live)
 uses_live_from id past manifest _ e live = absurd (false≢true e)
 
@@ -323,7 +323,7 @@ unfolding lists_use
 used_before rules past author id manifest (Commit other content text chunks bytes fresh fresh_bytes uses) legal allowed closed e =
     let said = commit_says rules past author other content text chunks bytes fresh fresh_bytes uses allowed in
     elim (use_cases rules other.session id uses past legal said.may_use (and_parts _ _ e).1) [
-      | inl own ↦ absurd (both_ways (is_unfinished id.session past) (closed_not_unfinished id.session past closed) (subst (λ n. is_unfinished n past ≡ true) (sym own) said.unfinished))
+      | inl own ↦ absurd (both_ways _ (closed_not_unfinished id.session past closed) (subst (λ n. is_unfinished n past ≡ true) (sym own) said.unfinished))
       | inr needed ↦ needed
     ]
 used_before rules past author id manifest _ legal allowed closed e = absurd (false≢true e)
@@ -334,7 +334,7 @@ unfolding is_needed has
 needed_before rules id entry past now closed needed =
     let new = entry ∷ past in
     elim (or_cases _ _ needed) [
-      | inl open_now ↦ absurd (both_ways (is_unfinished id.session new) (closed_not_unfinished id.session new (has_older (closes id.session) entry past closed)) open_now)
+      | inl open_now ↦ absurd (both_ways _ (closed_not_unfinished id.session new (has_older (closes id.session) entry past closed)) open_now)
       | inr used ↦
           let at = any_in (λ (e : Entry). uses_live id new e.point) new used in
           let listed = live_use id new at.0.point at.2 in
@@ -358,13 +358,13 @@ unfolding is_closed
 never_live rules [] older id legal closed dead = dead
 never_live rules (entry ∷ newer) older id legal closed dead =
     let now = step rules entry (newer ++ older) legal in
-    false_from_ne_true (is_live id (entry ∷ newer ++ older)) (λ live.
-    both_ways (is_live id (newer ++ older)) (never_live rules newer older id now.legal closed dead) (live_before rules id entry (newer ++ older) now (closed_still id.session newer older closed) live))
+    false_from_ne_true _ (λ live.
+    both_ways _ (never_live rules newer older id now.legal closed dead) (live_before rules id entry (newer ++ older) now (closed_still id.session newer older closed) live))
 
 pub never_needed : (rules : Rules) (newer older : List Entry) (id : ContainerId) → is_legal rules (newer ++ older) ≡ true → is_closed id.session older ≡ true → is_needed id older ≡ false → is_needed id (newer ++ older) ≡ false
 unfolding is_closed
 never_needed rules [] older id legal closed dead = dead
 never_needed rules (entry ∷ newer) older id legal closed dead =
     let now = step rules entry (newer ++ older) legal in
-    false_from_ne_true (is_needed id (entry ∷ newer ++ older)) (λ needed.
-    both_ways (is_needed id (newer ++ older)) (never_needed rules newer older id now.legal closed dead) (needed_before rules id entry (newer ++ older) now (closed_still id.session newer older closed) needed))
+    false_from_ne_true _ (λ needed.
+    both_ways _ (never_needed rules newer older id now.legal closed dead) (needed_before rules id entry (newer ++ older) now (closed_still id.session newer older closed) needed))

@@ -142,11 +142,11 @@ AreOf object_of = (s t a b : ℕ) → (eqb s t ≡ false) ⊎ (eqb a b ≡ false
 
 are_containers : AreOf container_at
 are_containers s t a b (inl session) = and_left (eqb s t) (eqb a b) session
-are_containers s t a b (inr number) = and_right (eqb s t) (eqb a b) number
+are_containers s t a b (inr number) = and_right _ _ number
 
 are_manifests : AreOf manifest_at
 are_manifests s t a b (inl session) = and_left (eqb s t) (eqb a b) session
-are_manifests s t a b (inr number) = and_right (eqb s t) (eqb a b) number
+are_manifests s t a b (inr number) = and_right _ _ number
 
 objects_apart : (object_at : ℕ → ℕ → Object) → AreOf object_at → (count : ℕ → ℕ) (n : ℕ) → Apart same_object (objects_by object_at count 0 n)
 objects_apart object_at are count n =

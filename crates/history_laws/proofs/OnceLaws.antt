@@ -35,7 +35,7 @@ apart_more : (id : ManifestId) (ids : List ManifestId) (stood : List Standing) (
 unfolding chosen_standings
 apart_more id ids stood None e distinct rest = rw e rest
 apart_more id ids stood (Some x) e distinct rest =
-    let same : id ≡ x.id = same_manifest-true id x.id (standing_of_in id x stood e).1 in
+    let same : id ≡ x.id = same_manifest-true _ _ (standing_of_in id x stood e).1 in
     rw e ((λ y h. subst (λ (m : ManifestId). same_manifest m y.id ≡ false) same (distinct.0 y.id (chosen_in y ids stood h).1)), rest)
 
 apart_chosen : (chosen : List ManifestId) (stood : List Standing) → Apart same_manifest chosen → Apart same_standing (chosen_standings chosen stood)
@@ -48,16 +48,16 @@ unfolding promoted others_standing has_manifest
 apart_promoted chosen stood distinct apart =
     apart_append same_standing (chosen_standings chosen stood) (others_standing chosen stood) (apart_chosen chosen stood distinct)
     (apart_filter same_standing (λ (s : Standing). not (has_manifest s.id chosen)) stood apart)
-    (λ x y first second. false_from_ne_true (same_manifest x.id y.id) (λ same.
-    let is : x.id ≡ y.id = same_manifest-true x.id y.id same in
+    (λ x y first second. false_from_ne_true _ (λ same.
+    let is : x.id ≡ y.id = same_manifest-true _ _ same in
     let listed = subst (λ (m : ManifestId). In m chosen) is (chosen_in x chosen stood first).1 in
-    both_ways (has_manifest y.id chosen) (others_in y chosen stood second).1 (in_any (same_manifest y.id) y.id chosen listed (same_manifest-self y.id))))
+    both_ways _ (others_in y chosen stood second).1 (in_any (same_manifest y.id) y.id chosen listed (same_manifest-self y.id))))
 
 apart_front : (rules : Rules) (bound : ℕ) (id : ManifestId) (past : List Entry) (stood : List Standing) → is_legal rules past ≡ true → id.seq ≡ commits_of id.session past → ((x : Standing) → In x stood → MayStand x past) → Apart same_standing stood → Apart same_standing (in_front bound (newest id past) stood)
 unfolding in_front
 apart_front rules bound id past stood legal next each apart = apart_take same_standing bound (newest id past ∷ stood) (
-  (λ y h. false_from_ne_true (same_manifest id y.id) (λ same.
-      let is : id ≡ y.id = same_manifest-true id y.id same in
+  (λ y h. false_from_ne_true _ (λ same.
+      let is : id ≡ y.id = same_manifest-true _ _ same in
       let committed = subst (λ (m : ManifestId). has (commits_manifest m) past ≡ true) (sym is) (stands_committed y past (each y h)) in
       let below = committed_below rules id past legal committed in
       absurd (omega (arith, below, next)))),
@@ -121,7 +121,7 @@ committed_once rules id j k (entry ∷ past) legal a b =
 
 commits_one : (a b : ManifestId) (point : Point) → commits_manifest a point ≡ true → commits_manifest b point ≡ true → a ≡ b
 unfolding commits_manifest
-commits_one a b (Commit id content text chunks bytes fresh fresh_bytes uses) first second = same_manifest-true a id first ∙ sym (same_manifest-true b id second)
+commits_one a b (Commit id content text chunks bytes fresh fresh_bytes uses) first second = same_manifest-true _ _ first ∙ sym (same_manifest-true _ _ second)
 commits_one a b _ first second = absurd (false≢true first)
 
 same_commit : (a b : ManifestId) (k : ℕ) (past : List Entry) → IsCommitOf a k past → IsCommitOf b k past → a ≡ b
@@ -141,7 +141,7 @@ same_stamps rules past a b legal first second =
     let cb = standing_commit b past second in
     same_tests (same_manifest a.id b.id) (eqb a.stamp b.stamp)
     (λ same.
-    let is : b.id ≡ a.id = sym (same_manifest-true a.id b.id same) in
+    let is : b.id ≡ a.id = sym (same_manifest-true _ _ same) in
     eq-eqb a.stamp b.stamp (committed_once rules a.id a.stamp b.stamp past legal ca (subst (λ (m : ManifestId). IsCommitOf m b.stamp past) is cb)))
     (λ level.
     let is : a.stamp ≡ b.stamp = eqb-true _ _ level in

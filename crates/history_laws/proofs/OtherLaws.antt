@@ -63,7 +63,7 @@ unfolding pending
 pending_kept s entry past other = ap (λ o. option_and_then (λ (e : Entry). champions_chosen e.point) o) (newest_same (settles s) entry past other.settled)
 
 turned : (a b : ℕ) → eqb b a ≡ false → eqb a b ≡ false
-turned a b other = false_from_ne_true (eqb a b) (λ same. both_ways (eqb b a) other (eq-eqb b a (sym (eqb-true _ _ same))))
+turned a b other = false_from_ne_true _ (λ same. both_ways _ other (eq-eqb b a (sym (eqb-true _ _ same))))
 
 least_max : (n : ℕ) → max 0 n ≡ n
 least_max n = omega arith

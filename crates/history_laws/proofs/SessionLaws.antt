@@ -64,11 +64,11 @@ unfinished_is s past open_now =
 
 pub unfinished_from : (s : ℕ) (past : List Entry) → has (begins s) past ≡ true → has (closes s) past ≡ false → is_unfinished s past ≡ true
 unfolding is_unfinished
-unfinished_from s past begun open_still = and_from (has (begins s) past) (not (has (closes s) past)) begun (not_from_false (has (closes s) past) open_still)
+unfinished_from s past begun open_still = and_from (has (begins s) past) (not (has (closes s) past)) begun (not_from_false _ open_still)
 
 pub closed_not_unfinished : (s : ℕ) (past : List Entry) → has (closes s) past ≡ true → is_unfinished s past ≡ false
 unfolding is_unfinished
-closed_not_unfinished s past closed = and_right (has (begins s) past) (not (has (closes s) past)) (not_from_true (has (closes s) past) closed)
+closed_not_unfinished s past closed = and_right _ _ (not_from_true _ closed)
 
 pub retained_parts : (s : ℕ) (past : List Entry) → is_retained s past ≡ true → (has (finishes s) past ≡ true) × (has (deletes s) past ≡ false)
 unfolding is_retained
@@ -78,7 +78,7 @@ retained_parts s past kept =
 
 pub retained_from : (s : ℕ) (past : List Entry) → has (finishes s) past ≡ true → has (deletes s) past ≡ false → is_retained s past ≡ true
 unfolding is_retained
-retained_from s past finished undeleted = and_from (has (finishes s) past) (not (has (deletes s) past)) finished (not_from_false (has (deletes s) past) undeleted)
+retained_from s past finished undeleted = and_from (has (finishes s) past) (not (has (deletes s) past)) finished (not_from_false _ undeleted)
 
 finishes_closes : (s : ℕ) (point : Point) → finishes s point ≡ true → closes s point ≡ true
 unfolding closes
@@ -107,23 +107,23 @@ closed_cases s past closed =
 -- ---- what holds in every legal history
 
 pub deleted_finished : (rules : Rules) (s : ℕ) (past : List Entry) → is_legal rules past ≡ true → has (deletes s) past ≡ true → has (finishes s) past ≡ true
-deleted_finished rules s [] legal deleted = absurd (both_ways (has (deletes s) []) (has_none (deletes s)) deleted)
+deleted_finished rules s [] legal deleted = absurd (both_ways _ (has_none (deletes s)) deleted)
 deleted_finished rules s (entry ∷ past) legal deleted =
     let now = step rules entry past legal in
     has_older (finishes s) entry past (elim (has_cases (deletes s) entry past deleted) [
-      | inl here ↦ (retained_parts s past (deletes_retained rules past entry.author s entry.point now.allowed here)).0
+      | inl here ↦ (retained_parts _ _ (deletes_retained rules past entry.author s entry.point now.allowed here)).0
       | inr older ↦ deleted_finished rules s past now.legal older
     ])
 
 -- what is unfinished is not deleted
 pub unfinished_undeleted : (rules : Rules) (s : ℕ) (past : List Entry) → is_legal rules past ≡ true → is_unfinished s past ≡ true → has (deletes s) past ≡ false
 unfinished_undeleted rules s past legal open_now =
-    false_from_ne_true (has (deletes s) past) (λ deleted.
-    both_ways (has (closes s) past) (unfinished_is s past open_now).1 (finished_closed s past (deleted_finished rules s past legal deleted)))
+    false_from_ne_true _ (λ deleted.
+    both_ways _ (unfinished_is _ _ open_now).1 (finished_closed s past (deleted_finished rules s past legal deleted)))
 
 pub unfinished_unaborted : (s : ℕ) (past : List Entry) → is_unfinished s past ≡ true → has (aborts s) past ≡ false
 unfinished_unaborted s past open_now =
-    false_from_ne_true (has (aborts s) past) (λ aborted. both_ways (has (closes s) past) (unfinished_is s past open_now).1 (aborted_closed s past aborted))
+    false_from_ne_true _ (λ aborted. both_ways _ (unfinished_is _ _ open_now).1 (aborted_closed s past aborted))
 
 -- ---- numbers
 
@@ -149,7 +149,7 @@ count_older p entry past = elim (cases_Bool (p entry)) [
 -- sessions have the numbers below their count
 pub begun_below : (rules : Rules) (s : ℕ) (past : List Entry) → is_legal rules past ≡ true → has (begins s) past ≡ true → s < session_count past
 unfolding session_count
-begun_below rules s [] legal begun = absurd (both_ways (has (begins s) []) (has_none (begins s)) begun)
+begun_below rules s [] legal begun = absurd (both_ways _ (has_none (begins s)) begun)
 begun_below rules s (entry ∷ past) legal begun =
     let now = step rules entry past legal in
     elim (has_cases (begins s) entry past begun) [
@@ -166,7 +166,7 @@ begun_below rules s (entry ∷ past) legal begun =
 -- the manifests that a session committed have the numbers below their count
 pub committed_below : (rules : Rules) (id : ManifestId) (past : List Entry) → is_legal rules past ≡ true → has (commits_manifest id) past ≡ true → id.seq < commits_of id.session past
 unfolding commits_of
-committed_below rules id [] legal committed = absurd (both_ways (has (commits_manifest id) []) (has_none (commits_manifest id)) committed)
+committed_below rules id [] legal committed = absurd (both_ways _ (has_none (commits_manifest id)) committed)
 committed_below rules id (entry ∷ past) legal committed =
     let now = step rules entry past legal in
     elim (has_cases (commits_manifest id) entry past committed) [
@@ -181,10 +181,10 @@ committed_below rules id (entry ∷ past) legal committed =
     ]
 
 pub committed_begun : (rules : Rules) (id : ManifestId) (past : List Entry) → is_legal rules past ≡ true → has (commits_manifest id) past ≡ true → has (begins id.session) past ≡ true
-committed_begun rules id [] legal committed = absurd (both_ways (has (commits_manifest id) []) (has_none (commits_manifest id)) committed)
+committed_begun rules id [] legal committed = absurd (both_ways _ (has_none (commits_manifest id)) committed)
 committed_begun rules id (entry ∷ past) legal committed =
     let now = step rules entry past legal in
     has_older (begins id.session) entry past (elim (has_cases (commits_manifest id) entry past committed) [
-      | inl here ↦ (unfinished_is id.session past (commits_next rules past entry.author id entry.point now.allowed here).0).0
+      | inl here ↦ (unfinished_is _ _ (commits_next rules past entry.author id entry.point now.allowed here).0).0
       | inr older ↦ committed_begun rules id past now.legal older
     ])

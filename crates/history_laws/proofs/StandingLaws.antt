@@ -67,7 +67,7 @@ unfolding chosen_standings
 chosen_in x chosen stood h =
     let found = filter_map_in (λ id. standing_of id stood) x chosen h in
     let at = standing_of_in found.0 x stood found.2 in
-    (at.0, subst (λ (m : ManifestId). In m chosen) (same_manifest-true found.0 x.id at.1) found.1)
+    (at.0, subst (λ (m : ManifestId). In m chosen) (same_manifest-true _ _ at.1) found.1)
 
 pub others_in : (x : Standing) (chosen : List ManifestId) (stood : List Standing) → In x (others_standing chosen stood) → In x stood × (has_manifest x.id chosen ≡ false)
 unfolding others_standing
