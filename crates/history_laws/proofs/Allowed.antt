@@ -1,7 +1,6 @@
 -- What an allowed entry says of the entries before it.
-use Rattle.std.proofs.Common.{◌≡◌, ℕ, Bool, true, false, not, ◌&&◌, eqb, leb, cond, List, ◌∷◌, Option, Some, None, refl, sym, ap, ◌∙◌, subst, inl, inr, eqb-true}
+use Rattle.std.proofs.Common.{◌≡◌, ℕ, Bool, true, false, ◌&&◌, eqb, cond, List, ◌∷◌, Option, Some, None, refl, sym, ap, ◌∙◌, subst, inl, inr, eqb-true}
 use Rattle.std.specs.Option.{option_eq, option_map}
-use Rattle.std.specs.Cmp.Lexicographic.{pointwise}
 use Rattle.std.proofs.lemmas.Bool.{false≢true, and_parts, or_cases}
 use Rattle.ss_base.specs.declared.ids.ContainerId.{ContainerId}
 use Rattle.ss_base.specs.declared.ids.ManifestId.{ManifestId}
@@ -12,12 +11,11 @@ use Rattle.journal_entry.specs.declared.entry.Seen.{Seen}
 use Rattle.history.specs.declared.rules.Rules.{Rules}
 use Rattle.journal_entry.specs.declared.entry.Point.{Point}
 use Rattle.journal_entry.specs.declared.entry.Point.TheVariants.{Begin, Choose, Commit, Finish, Abort, Delete, Look}
-use Rattle.history.specs.Sessions.{session_begun, session_count, sessions_under, reading_count, begins, finishes, aborts, closes, deletes, is_unfinished, is_retained, is_held, retained, is_begun_by, is_pending, commits_of}
+use Rattle.history.specs.Sessions.{session_begun, session_count, sessions_under, reading_count, begins, finishes, aborts, closes, deletes, is_unfinished, is_retained, is_held, retained, commits_of}
 use Rattle.history.specs.Bounds.{are_counts}
 use Rattle.history.specs.StandingList.{champions_for}
-use Rattle.history.specs.OwnEnd.{own_end}
 use Rattle.history.specs.Need.{commits_manifest}
-use Rattle.history.specs.Legal.{is_open_to, reply_to_begin, reply_to_look, same_seen, are_hooks, are_uses, are_texts, is_allowed, is_within, may_follow, is_legal}
+use Rattle.history.specs.Legal.{is_open_to, reply_to_begin, reply_to_look, same_seen, are_hooks, are_uses, is_allowed, may_follow, is_legal}
 use Rattle.ss_base.proofs.MemberLaws.{In, find_in}
 use Rattle.ss_base.proofs.IdLaws.{same_manifest-true, pointwise-true}
 

@@ -1,23 +1,18 @@
 -- Sessions and readings are begun once.
-use Rattle.std.proofs.Common.{◌≡◌, ◌⊎◌, ℕ, ◌+◌, ◌<◌, ◌≤◌, Bool, true, false, not, ◌&&◌, ◌||◌, eqb, leb, cond, List, [], ◌∷◌, length, Option, Some, None, is_some, refl, sym, ap, ◌∙◌, subst, inl, inr, arith, zero-add, eqb-true}
+use Rattle.std.proofs.Common.{◌≡◌, ℕ, ◌<◌, ◌≤◌, Bool, true, false, List, [], ◌∷◌, Option, Some, None, is_some, refl, ◌∙◌, inl, inr, arith, eqb-true}
 use Rattle.std.specs.List.{count_by}
-use Rattle.std.specs.Option.{option_eq, option_map, option_map_or}
-use Rattle.std.proofs.lemmas.Bool.{false≢true, both_ways, and_parts, and_from, or_left, or_right, not-true, not_from_false, not_from_true, and_right, false_from_ne_true, cases_Bool, leb-true}
-use Rattle.std.proofs.lemmas.List.Sums.{sum_by-cons}
+use Rattle.std.specs.Option.{option_eq, option_map}
+use Rattle.std.proofs.lemmas.Bool.{false≢true, both_ways, and_parts, false_from_ne_true, cases_Bool}
 use Rattle.journal_entry.specs.declared.entry.Entry.{Entry}
 use Rattle.journal_entry.specs.declared.entry.Seen.{Seen}
 use Rattle.journal_entry.specs.declared.entry.Point.{Point}
-use Rattle.journal_entry.specs.declared.entry.Point.TheVariants.{Finish, Abort, Look, Done}
-use Rattle.journal_entry.specs.Weight.{point_weight, weight}
-use Rattle.history.specs.declared.rules.Limits.{Limits}
+use Rattle.journal_entry.specs.declared.entry.Point.TheVariants.{Look}
 use Rattle.history.specs.declared.rules.Rules.{Rules}
-use Rattle.history.specs.Sessions.{is_number, session_begun, session_count, begins, finishes, aborts, closes, has, is_unfinished, reading_begun, reading_count, looks_some, looks, ends, is_reading, retained}
-use Rattle.history.specs.Legal.{reply_to_look, same_seen, is_allowed, begins_unfinished, looks_unfinished, unfinished_sessions, unfinished_readings, is_within, may_follow, is_legal}
-use Rattle.ss_base.proofs.MemberLaws.{In, any_in, count_one, count_other, count_at_most, count_none}
+use Rattle.history.specs.Sessions.{is_number, session_count, begins, has, reading_begun, reading_count, looks_some, looks, retained}
+use Rattle.history.specs.Legal.{reply_to_look, same_seen, is_allowed, is_legal}
+use Rattle.ss_base.proofs.MemberLaws.{count_one, count_other, count_none}
 use Rattle.history_laws.proofs.Allowed.{step, begins_next}
-use Rattle.history_laws.proofs.SessionLaws.{has_cases, has_older, has_same, has_parts, has_none, has_now, unfinished_is, unfinished_from, closed_not_unfinished, begun_below}
-use Rattle.history_laws.proofs.CountLaws.{count_more}
-use Rattle.history_laws.proofs.StandingLaws.{made}
+use Rattle.history_laws.proofs.SessionLaws.{has_cases, has_none, begun_below}
 
 -- ---- once
 
@@ -34,8 +29,8 @@ begun_once rules s (entry ∷ past) legal =
       | inl here ↦
           let next : s ≡ session_count past = begins_next rules past entry.author s entry.point now.allowed here in
           let unbegun : has (begins s) past ≡ false = false_from_ne_true _ (λ begun.
-            let below = begun_below rules s past now.legal begun in
-            absurd (omega (arith, below, next))) in
+          let below = begun_below rules s past now.legal begun in
+          absurd (omega (arith, below, next))) in
           let none = unbegun_count (begins s) past unbegun in
           let one = count_one p entry past here in
           omega (arith, none, one)
@@ -92,8 +87,8 @@ looked_once rules r (entry ∷ past) legal =
       | inl here ↦
           let next : r ≡ reading_count past = looks_next rules past entry.author r entry.point now.allowed here in
           let unlooked : has (looks r) past ≡ false = false_from_ne_true _ (λ looked.
-            let below = looked_below rules r past now.legal looked in
-            absurd (omega (arith, below, next))) in
+          let below = looked_below rules r past now.legal looked in
+          absurd (omega (arith, below, next))) in
           let none = unbegun_count (looks r) past unlooked in
           let one = count_one p entry past here in
           omega (arith, none, one)

@@ -1,6 +1,5 @@
 -- An entry that ends an unfinished session or reading fits the limits.
-use Rattle.std.proofs.Common.{◌≡◌, ℕ, ◌+◌, ◌≤◌, Bool, true, false, ◌&&◌, ◌||◌, eqb, leb, ◌⊎◌, List, [], ◌∷◌, length, Option, Some, None, refl, sym, ap, ◌∙◌, subst, inl, inr, arith, eqb-true}
-use Rattle.std.specs.List.{count_by}
+use Rattle.std.proofs.Common.{◌≡◌, ℕ, ◌+◌, ◌≤◌, true, false, ◌&&◌, leb, ◌⊎◌, List, [], ◌∷◌, length, Option, Some, None, refl, sym, ap, ◌∙◌, inl, inr, arith, eqb-true}
 use Rattle.std.specs.Option.{option_map, option_map_or}
 use Rattle.std.proofs.lemmas.Bool.{false≢true, both_ways, and_parts, and_from, and_right, not_from_true, not_from_false, not-true, leb-true, le-leb}
 use Rattle.std.proofs.lemmas.List.Sums.{sum_by-cons}
@@ -13,7 +12,7 @@ use Rattle.history.specs.declared.rules.Limits.{Limits}
 use Rattle.history.specs.declared.rules.Rules.{Rules}
 use Rattle.history.specs.Sessions.{is_number, session_begun, begins, finishes, aborts, closes, has, is_unfinished, reading_begun, looks, ends, is_reading}
 use Rattle.history.specs.Legal.{is_allowed, begins_unfinished, looks_unfinished, unfinished_sessions, unfinished_readings, is_within, may_follow, is_legal}
-use Rattle.ss_base.proofs.MemberLaws.{In, any_in, count_other, count_at_most}
+use Rattle.ss_base.proofs.MemberLaws.{any_in, count_other, count_at_most}
 use Rattle.history_laws.proofs.SessionLaws.{has_same, has_parts, has_none, has_now, unfinished_is, unfinished_from, closed_not_unfinished}
 use Rattle.history_laws.proofs.CountLaws.{count_more}
 

@@ -1,6 +1,5 @@
 -- The list of a hook is never longer than its bound, and what stands there was put there by a choice of the hook.
-use Rattle.std.proofs.Common.{◌≡◌, ◌⊎◌, ℕ, suc, ◌+◌, ◌-◌, ◌<◌, ◌≤◌, Bool, true, false, not, eqb, cond, List, [], ◌∷◌, ◌++◌, length, take, drop, reverse, Option, Some, None, refl, sym, ap, ◌∙◌, subst, inl, inr, arith, length-append}
-use mathlib.Core.List.{map}
+use Rattle.std.proofs.Common.{◌≡◌, ◌⊎◌, ℕ, suc, ◌-◌, ◌<◌, ◌≤◌, Bool, true, false, not, eqb, cond, List, [], ◌∷◌, length, drop, reverse, Option, Some, None, refl, sym, ap, ◌∙◌, subst, inl, inr, arith, length-append}
 use Rattle.std.specs.List.{filter, count_by}
 use Rattle.std.proofs.lemmas.Bool.{both_ways, or_left, or_right, false_from_ne_true}
 use Rattle.std.proofs.lemmas.List.{length-take, length-reverse}
@@ -15,15 +14,15 @@ use Rattle.journal_entry.specs.declared.entry.Point.{Point}
 use Rattle.journal_entry.specs.declared.entry.Point.TheVariants.{Choose, Commit, Abort, Delete}
 use Rattle.history.specs.declared.rules.Rules.{Rules}
 use Rattle.history.specs.Sessions.{last_hooks}
-use Rattle.history.specs.StandingList.{standing_after, standing, champions_for}
+use Rattle.history.specs.StandingList.{standing_after, standing}
 use Rattle.history.specs.Legal.{is_legal}
 use Rattle.history_laws.specs.Stands.{MayStand, before, HasChosen}
 use Rattle.ss_base.proofs.IdLaws.{same_manifest-self, same_manifest-true}
-use Rattle.ss_base.proofs.MemberLaws.{In, in_any, any_in, count_at_most}
+use Rattle.ss_base.proofs.MemberLaws.{In, any_in, count_at_most}
 use Rattle.ss_base.proofs.ApartLaws.{Apart}
 use Rattle.history_laws.proofs.Allowed.{IsStep, step}
 use Rattle.history_laws.proofs.CountLaws.{count_rest, count_more}
-use Rattle.history_laws.proofs.StandingLaws.{made, newest, chosen_in, others_in, standing_of_in, promoted_in, front_in, without_in, chosen_by, standing_commit, what_stands}
+use Rattle.history_laws.proofs.StandingLaws.{made, newest, standing_of_in, promoted_in, front_in, without_in, chosen_by, standing_commit, what_stands}
 use Rattle.history_laws.proofs.OnceLaws.{chosen_apart}
 
 -- ---- the bound
@@ -44,10 +43,10 @@ few_step id ids stood (Some x) e distinct rest =
     let at = standing_of_in id x stood e in
     let same : id ≡ x.id = same_manifest-true _ _ at.1 in
     let absent : has_manifest x.id ids ≡ false = false_from_ne_true _ (λ has.
-      let found = any_in (same_manifest x.id) ids has in
-      let other : id ≡ found.0 = same ∙ same_manifest-true _ _ found.2 in
-      let itself : same_manifest id found.0 ≡ true = subst (λ (m : ManifestId). same_manifest id m ≡ true) other (same_manifest-self id) in
-      both_ways _ (distinct.0 found.0 found.1) itself) in
+    let found = any_in (same_manifest x.id) ids has in
+    let other : id ≡ found.0 = same ∙ same_manifest-true _ _ found.2 in
+    let itself : same_manifest id found.0 ≡ true = subst (λ (m : ManifestId). same_manifest id m ≡ true) other (same_manifest-self id) in
+    both_ways _ (distinct.0 found.0 found.1) itself) in
     let itself : same_manifest x.id id ≡ true = subst (λ (m : ManifestId). same_manifest x.id m ≡ true) (sym same) (same_manifest-self x.id) in
     let more = count_more (λ (s : Standing). has_manifest s.id ids) (λ (s : Standing). has_manifest s.id (id ∷ ids)) x stood at.0 absent (or_left (same_manifest x.id id) (has_manifest x.id ids) itself) (λ s h has. or_right (same_manifest s.id id) (has_manifest s.id ids) has) in
     rw e (omega (arith, rest, more))

@@ -1,11 +1,11 @@
 -- The champions of a pending choice are live.
-use Rattle.std.proofs.Common.{◌≡◌, ℕ, true, ◌&&◌, ◌||◌, List, [], ◌∷◌, sym, ap, subst, inl, inr}
+use Rattle.std.proofs.Common.{◌≡◌, ℕ, true, List, [], ◌∷◌, sym, subst, inl, inr}
 use Rattle.std.proofs.lemmas.Bool.{and_from, or_left, or_right, cases_Bool}
 use Rattle.ss_base.specs.declared.ids.ManifestId.{ManifestId}
 use Rattle.ss_base.specs.Ids.{has_manifest}
 use Rattle.journal_entry.specs.declared.entry.Entry.{Entry}
 use Rattle.history.specs.declared.rules.Rules.{Rules}
-use Rattle.history.specs.Sessions.{settles, has, is_unfinished, is_retained, pending_champions}
+use Rattle.history.specs.Sessions.{settles, has, pending_champions}
 use Rattle.history.specs.Need.{is_champion, is_being_read, is_pinned, commits_manifest, is_live}
 use Rattle.history.specs.Legal.{is_legal}
 use Rattle.history_laws.proofs.Allowed.{step}
@@ -32,7 +32,4 @@ pub pending_live : (rules : Rules) (t : ℕ) (id : ManifestId) (past : List Entr
 unfolding is_live is_pinned
 pending_live rules t id past legal h =
     let pinned = or_left (is_champion id past) (is_being_read id.session past) (champion_from rules t id past legal h) in
-    and_from (has (commits_manifest id) past) (is_unfinished id.session past || (is_retained id.session past || (is_champion id past || is_being_read id.session past)))
-    (pending_committed rules t id past legal h)
-    (or_right (is_unfinished id.session past) (is_retained id.session past || (is_champion id past || is_being_read id.session past))
-    (or_right (is_retained id.session past) (is_champion id past || is_being_read id.session past) pinned))
+    and_from _ _ (pending_committed rules t id past legal h) (or_right _ _ (or_right _ _ pinned))

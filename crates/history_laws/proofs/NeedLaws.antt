@@ -1,7 +1,6 @@
 -- What is not needed after its session was closed is never needed again.
-use Rattle.std.proofs.Common.{◌≡◌, ◌⊎◌, ℕ, true, false, not, ◌&&◌, ◌||◌, eqb, List, [], ◌∷◌, ◌++◌, length, Option, Some, None, refl, sym, ap, ◌∙◌, subst, inl, inr, eqb-true, ltb, leb}
+use Rattle.std.proofs.Common.{◌≡◌, ◌⊎◌, ℕ, true, false, not, ◌&&◌, ◌||◌, eqb, List, [], ◌∷◌, ◌++◌, Option, Some, None, refl, sym, ap, ◌∙◌, subst, inl, inr, eqb-true}
 use mathlib.Core.List.{map}
-use Rattle.std.specs.List.{list_all}
 use Rattle.std.specs.Option.{option_map, unwrap_or}
 use Rattle.std.proofs.lemmas.Bool.{false≢true, both_ways, and_parts, and_from, or_cases, or_left, or_right, not-true, not_from_false, false_from_ne_true, cases_Bool, eq-eqb}
 use Rattle.ss_base.specs.declared.ids.ContainerId.{ContainerId}
@@ -9,7 +8,6 @@ use Rattle.ss_base.specs.declared.ids.ManifestId.{ManifestId}
 use Rattle.ss_base.specs.declared.ids.Standing.{Standing}
 use Rattle.ss_base.specs.declared.name.Name.{Name}
 use Rattle.ss_base.specs.Ids.{same_manifest, has_manifest, same_container, has_container}
-use Rattle.ss_base.specs.Order.{are_ascending}
 use Rattle.ss_base.specs.Champions.{stands_in}
 use Rattle.journal_entry.specs.declared.entry.Entry.{Entry}
 use Rattle.journal_entry.specs.declared.entry.Seen.{Seen}

@@ -1,12 +1,12 @@
 -- What can be erased, or was given over to be removed, is never wanted again.
-use Rattle.std.proofs.Common.{◌≡◌, ◌⊎◌, ℕ, zero, suc, ◌+◌, true, false, not, eqb, List, [], ◌∷◌, ◌++◌, take, Option, Some, None, refl, sym, ap, ◌∙◌, subst, inl, inr}
+use Rattle.std.proofs.Common.{◌≡◌, ◌⊎◌, ℕ, zero, suc, ◌+◌, true, false, eqb, List, [], ◌∷◌, ◌++◌, take, Option, Some, None, refl, sym, ap, ◌∙◌, subst, inl, inr}
 use mathlib.Core.List.{map}
 use Rattle.std.specs.List.{flat_map, range_with_len}
 use Rattle.std.specs.Option.{option_map_or, option_and_then}
 use Rattle.std.proofs.lemmas.Bool.{false≢true, and_parts, and_left, and_right, not-true}
 use Rattle.ss_base.specs.declared.object.Object.{Object}
 use Rattle.ss_base.specs.declared.object.Object.TheVariants.{Container, Manifest}
-use Rattle.ss_base.specs.Ids.{same_object, has_object}
+use Rattle.ss_base.specs.Ids.{same_object}
 use Rattle.ss_base.specs.declared.ended.Ended.{Ended}
 use Rattle.ss_base.specs.KnownObjects.{container_at, manifest_at, numbered, objects_of}
 use Rattle.journal_entry.specs.declared.entry.Entry.{Entry}

@@ -1,12 +1,11 @@
 -- An entry leaves as they were the sessions and readings that it does not concern.
-use Rattle.std.proofs.Common.{◌≡◌, ℕ, Bool, true, false, not, ◌&&◌, ◌||◌, eqb, cond, List, [], ◌∷◌, Option, Some, None, refl, sym, ap, ◌∙◌, max, arith, eqb-true}
-use Rattle.std.specs.List.{find, count_by}
+use Rattle.std.proofs.Common.{◌≡◌, ℕ, Bool, false, not, ◌&&◌, eqb, cond, List, [], ◌∷◌, refl, sym, ap, ◌∙◌, max, arith, eqb-true}
 use Rattle.std.specs.Option.{option_map, option_and_then, unwrap_or}
 use Rattle.std.proofs.lemmas.Bool.{or_parts, false_from_ne_true, both_ways, eq-eqb}
 use Rattle.journal_entry.specs.declared.entry.Entry.{Entry}
 use Rattle.journal_entry.specs.declared.entry.Point.{Point}
 use Rattle.journal_entry.specs.declared.entry.Point.TheVariants.{Commit}
-use Rattle.history.specs.Sessions.{is_number, begins, chooses, commits, finishes, aborts, closes, deletes, settles, has, newest, author_of, is_unfinished, is_retained, is_begun_by, commits_of, hooks_chosen, champions_chosen, last_hooks, pending, looks, ends, is_reading, is_looked_by}
+use Rattle.history.specs.Sessions.{is_number, begins, chooses, commits, finishes, aborts, closes, deletes, settles, newest, author_of, is_unfinished, is_retained, is_begun_by, commits_of, hooks_chosen, champions_chosen, last_hooks, pending, looks, ends, is_reading, is_looked_by}
 use Rattle.history.specs.OwnEnd.{greatest_by, end_among, end_used, own_end}
 use Rattle.ss_base.proofs.MemberLaws.{count_other}
 use Rattle.history_laws.specs.Concerns.{concerns_session, concerns_reading}

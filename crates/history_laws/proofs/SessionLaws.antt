@@ -1,5 +1,5 @@
 -- Laws of the sessions of a legal history.
-use Rattle.std.proofs.Common.{◌≡◌, ◌⊎◌, ℕ, ◌<◌, ◌≤◌, Bool, true, false, not, ◌||◌, eqb, List, [], ◌∷◌, refl, ap, ◌∙◌, inl, inr, arith, Option, Some, None, is_some}
+use Rattle.std.proofs.Common.{◌≡◌, ◌⊎◌, ℕ, ◌<◌, ◌≤◌, Bool, true, false, not, ◌||◌, List, [], ◌∷◌, refl, ap, ◌∙◌, inl, inr, arith, Option, Some, None, is_some}
 use Rattle.std.specs.List.{count_by}
 use Rattle.std.proofs.lemmas.Bool.{false≢true, both_ways, and_parts, and_from, and_right, or_cases, or_left, or_right, or_parts, not-true, not_from_true, not_from_false, false_from_ne_true, cases_Bool}
 use Rattle.ss_base.specs.declared.ids.ManifestId.{ManifestId}
