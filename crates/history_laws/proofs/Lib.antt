@@ -14,3 +14,4 @@ pub mod ObjectLaws
 pub mod BoundLaws
 mod OwnEndLaws
 mod OtherLaws
+mod RecountLaws

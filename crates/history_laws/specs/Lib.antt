@@ -1,3 +1,4 @@
 pub mod Stands
 pub mod OwnUse
 pub mod Concerns
+pub mod Recount

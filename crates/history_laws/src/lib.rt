@@ -11,7 +11,8 @@ mod standings;
 pub use entries::{entries_within_bounds, legal_prefix};
 pub use names::one_retained;
 pub use needs::{
-    never_live_again, never_needed_again, never_wanted_again, pending_is_live, reclaimed_once,
+    never_live_again, never_needed_again, never_wanted_again, numbers_tell, pending_is_live,
+    reclaimed_once,
 };
 pub use own_ends::own_end_is_least;
 pub use sessions::{begun_once, ends_fit, other_readings_stay, other_sessions_stay};

@@ -1,5 +1,5 @@
 // What is needed no more stays so.
-ghost use Rattle.std.specs.Prelude.{◌≡◌, ◌∷◌, ◌++◌, ℕ, List, true, false, Contains};
+ghost use Rattle.std.specs.Prelude.{◌≡◌, ◌∷◌, ◌++◌, ◌||◌, nat_lt, ℕ, List, true, false, Contains};
 ghost use Rattle.std.specs.List.{IsDistinct};
 ghost use Rattle.ss_base.specs.declared.ids.ContainerId.{ContainerId};
 ghost use Rattle.ss_base.specs.declared.ids.ManifestId.{ManifestId};
@@ -7,9 +7,19 @@ ghost use Rattle.ss_base.specs.declared.object.Object.{Object};
 ghost use Rattle.ss_base.specs.Ids.{same_object, has_manifest};
 ghost use Rattle.journal_entry.specs.declared.entry.Entry.{Entry};
 ghost use Rattle.history.specs.declared.rules.Rules.{Rules};
-ghost use Rattle.history.specs.Sessions.{is_closed, has, pending_champions};
-ghost use Rattle.history.specs.Need.{is_live, is_needed, is_wanted, erasable, reclaims};
+ghost use Rattle.history.specs.Sessions.{is_closed, is_unfinished, has, pending_champions};
+ghost use Rattle.history.specs.Need.{commits_manifest, is_live, is_needed, is_wanted, erasable, reclaims};
 ghost use Rattle.history.specs.Legal.{is_legal};
+ghost use Rattle.history_laws.specs.Recount.{holds, uses_of};
+
+/// A committed manifest is live exactly where it is held, and a container of a session that is not unfinished is needed
+/// exactly where it has a use.
+pub fn numbers_tell()
+    ensures live { (past : List Entry) (id : ManifestId) → has (commits_manifest id) past ≡ true
+        → is_live id past ≡ nat_lt 0 (holds id past) }
+    ensures needed { (past : List Entry) (id : ContainerId) → is_needed id past
+        ≡ (is_unfinished id.session past || nat_lt 0 (uses_of id past)) }
+{}
 
 /// A champion of a pending choice is live, so that its containers are needed.
 pub fn pending_is_live()

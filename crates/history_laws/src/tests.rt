@@ -99,6 +99,7 @@ fn histories_that_the_laws_speak_of(rt: HostRuntime) -> Result<(), Fail> {
     never_needed_again();
     never_wanted_again();
     reclaimed_once();
+    numbers_tell();
     pending_is_live();
     begun_once();
     ends_fit();
