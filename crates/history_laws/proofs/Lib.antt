@@ -15,3 +15,4 @@ pub mod BoundLaws
 mod OwnEndLaws
 mod OtherLaws
 mod RecountLaws
+pub mod NumberLaws
