@@ -1,0 +1,4 @@
+pub mod Recorded
+pub mod Rows
+pub mod Agrees
+pub mod Names

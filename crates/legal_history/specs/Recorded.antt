@@ -1,0 +1,22 @@
+-- A legal history with the rules by which it is legal (this project's own).
+use Rattle.std.specs.Prelude.{Bool, true, false, List, reverse}
+use Rattle.journal_entry.specs.declared.entry.Entry.{Entry}
+use Rattle.journal_entry.specs.declared.entry.Point.{Point}
+use Rattle.journal_entry.specs.declared.entry.Point.TheVariants.{Finish, Abort, Done}
+use Rattle.history.specs.declared.rules.Rules.{Rules}
+
+-- the entries, oldest first, and the rules
+pub record Recorded : Type 0 where
+  pub rules : Rules
+  pub entries : List Entry
+
+-- the entries, newest first
+abbrev pub past_of : Recorded → List Entry
+past_of recorded = reverse recorded.entries
+
+-- whether an entry ends a session or a reading
+abbrev pub is_end : Point → Bool
+is_end (Finish session containers) = true
+is_end (Abort session containers texts) = true
+is_end (Done reader) = true
+is_end _ = false
