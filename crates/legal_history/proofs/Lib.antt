@@ -5,3 +5,5 @@ mod TableSteps
 mod ReadingSteps
 mod NameOrder
 mod NameSteps
+mod OwnSmall
+mod ReadLaws

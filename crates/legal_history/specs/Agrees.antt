@@ -1,12 +1,12 @@
 -- What is kept is what the entries say (this project's own).
-use Rattle.std.specs.Prelude.{ℕ, ◌≡◌, Bool, true, false, List, length}
+use Rattle.std.specs.Prelude.{ℕ, ◌≡◌, Bool, true, false, not, ◌&&◌, is_some, List, length}
 use Rattle.journal_entry.specs.declared.entry.Entry.{Entry}
 use Rattle.history.specs.Sessions.{has, begins, chooses, commits, finishes, closes, deletes, looks, ends, is_pending, session_count, reading_count}
 use Rattle.history.specs.OwnEnd.{own_end}
 use Rattle.history_laws.specs.EntryNumbers.{numbers_of, last_champions, CommitThese}
 use Rattle.legal_history.specs.declared.stage.Stage.{Stage}
 use Rattle.legal_history.specs.declared.stage.Stage.TheVariants.{Unfinished, Retained, Aborted, Deleted}
-use Rattle.legal_history.specs.Rows.{Row, ReadingRow, row_at, reading_at}
+use Rattle.legal_history.specs.Rows.{Row, ReadingRow, last_of, row_at, reading_at}
 
 -- whether a session of a stage was closed, finished, deleted
 abbrev pub was_closed : Stage → Bool
@@ -22,6 +22,17 @@ was_finished Deleted = true
 abbrev pub was_deleted : Stage → Bool
 was_deleted Deleted = true
 was_deleted _ = false
+
+-- whether the session of a row is unfinished, retained
+abbrev pub is_open : Row → Bool
+is_open row = is_some (last_of row.begins) && not (was_closed row.stage)
+
+abbrev pub is_kept : Row → Bool
+is_kept row = was_finished row.stage && not (was_deleted row.stage)
+
+-- whether the reading of a row is unfinished
+abbrev pub is_going_on : ReadingRow → Bool
+is_going_on row = is_some (last_of row.looks) && not row.is_done
 
 -- a row says what the entries say of its session
 pub record IsSession (row : Row) (session : ℕ) (past : List Entry) : Type 0 where

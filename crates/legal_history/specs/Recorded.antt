@@ -1,8 +1,8 @@
 -- A legal history with the rules by which it is legal (this project's own).
-use Rattle.std.specs.Prelude.{Bool, true, false, List, reverse}
+use Rattle.std.specs.Prelude.{ℕ, ◌+◌, ◌-◌, Bool, true, false, List, reverse, Some}
 use Rattle.journal_entry.specs.declared.entry.Entry.{Entry}
 use Rattle.journal_entry.specs.declared.entry.Point.{Point}
-use Rattle.journal_entry.specs.declared.entry.Point.TheVariants.{Finish, Abort, Done}
+use Rattle.journal_entry.specs.declared.entry.Point.TheVariants.{Begin, Finish, Abort, Look, Done}
 use Rattle.history.specs.declared.rules.Rules.{Rules}
 
 -- the entries, oldest first, and the rules
@@ -20,3 +20,12 @@ is_end (Finish session containers) = true
 is_end (Abort session containers texts) = true
 is_end (Done reader) = true
 is_end _ = false
+
+-- how many sessions and readings are unfinished after an entry, by how many were
+abbrev pub unfinished_after : ℕ → Point → ℕ
+unfinished_after n (Begin name (Some session)) = n + 1
+unfinished_after n (Look name (Some seen)) = n + 1
+unfinished_after n (Finish session containers) = n - 1
+unfinished_after n (Abort session containers texts) = n - 1
+unfinished_after n (Done reader) = n - 1
+unfinished_after n _ = n

@@ -1,11 +1,15 @@
 -- What is kept of each session and reading, by the numbers of entries (this project's own).
-use Rattle.std.specs.Prelude.{ℕ, Bool, true, false, max, List, [], ◌∷◌, ◌++◌, map, slice_get, slice_set, slice_index, Option, Some, None, unwrap_or}
+use Rattle.std.specs.Prelude.{ℕ, ◌-◌, length, Bool, true, false, max, List, [], ◌∷◌, ◌++◌, map, slice_get, slice_set, slice_index, Option, Some, None, unwrap_or}
 use Rattle.ss_base.specs.declared.ids.ManifestId.{ManifestId}
 use Rattle.journal_entry.specs.declared.entry.Point.{Point}
 use Rattle.journal_entry.specs.declared.entry.Point.TheVariants.{Begin, Choose, Commit, Finish, Abort, Delete, Look, Done}
 use Rattle.history.specs.OwnEnd.{end_among}
 use Rattle.legal_history.specs.declared.stage.Stage.{Stage}
 use Rattle.legal_history.specs.declared.stage.Stage.TheVariants.{Unfinished, Retained, Aborted, Deleted}
+
+-- the last of some numbers
+abbrev pub last_of : List ℕ → Option ℕ
+last_of numbers = slice_get numbers (length numbers - 1)
 
 -- of a session: the number of its Begin, its stage, the numbers of its Chooses and its Commits, whether a choice is
 -- pending, the numbers of the Commits of its last champions, and the least number above the ordinals that it used

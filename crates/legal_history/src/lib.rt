@@ -2,8 +2,14 @@
 //! entries.
 #![tactic(auto)]
 
+mod legal_history;
+mod names;
+mod parts;
 mod readings;
 mod session;
 mod sessions;
 mod stage;
 mod uses;
+
+pub use history::{Entry, Point, Rules, Seen};
+pub use legal_history::LegalHistory;

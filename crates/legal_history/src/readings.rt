@@ -1,7 +1,8 @@
 // What is kept of the readings, of which a reader's number is its place.
-ghost use Rattle.std.specs.Prelude.{◌≡◌, ◌∷◌, ◌++◌, [], length, slice_get, slice_set, true, IsOk, OnOk, OnErr};
+ghost use Rattle.std.specs.Prelude.{◌≡◌, ◌∷◌, ◌++◌, [], length, true, IsOk, OnOk, OnErr};
+ghost use Rattle.legal_history.specs.Agrees.{is_going_on};
 ghost use Rattle.legal_history.specs.Recorded.{is_end};
-ghost use Rattle.legal_history.specs.Rows.{looked, reading_at, done, noted_reading};
+ghost use Rattle.legal_history.specs.Rows.{last_of, looked, reading_at, done, noted_reading};
 
 use history::Point;
 use ss_base::Memory;
@@ -83,7 +84,7 @@ impl Readings {
     }
 
     pub(crate) fn look(&self, reader: u32) -> Option<u32>
-        ensures { result ≡ slice_get (reading_at reader self.now).looks 0 }
+        ensures { result ≡ last_of (reading_at reader self.now).looks }
     {
         match self.rows.get(reader as usize) {
             Some(row) => Some(row.look()),
@@ -98,6 +99,12 @@ impl Readings {
             Some(row) => row.is_done(),
             None => false,
         }
+    }
+
+    pub(crate) fn is_unfinished(&self, reader: u32) -> bool
+        ensures { result ≡ is_going_on (reading_at reader self.now) }
+    {
+        self.look(reader).is_some() && !self.is_done(reader)
     }
 
     // Notes what the entry with this number does to its reading.

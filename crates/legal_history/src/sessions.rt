@@ -1,8 +1,9 @@
 // What is kept of the sessions, of which a session's number is its place.
-ghost use Rattle.std.specs.Prelude.{◌≡◌, ◌∷◌, ◌++◌, [], map, length, slice_get, true, IfOk, OnOk, OnErr, IsOk};
+ghost use Rattle.std.specs.Prelude.{◌≡◌, ◌∷◌, ◌++◌, [], map, length, true, List, IfOk, OnOk, OnErr, IsOk};
 ghost use Rattle.history.specs.OwnEnd.{end_among};
 ghost use Rattle.legal_history.specs.Recorded.{is_end};
-ghost use Rattle.legal_history.specs.Rows.{row_at, chosen, begun, committed, finished, aborted, deleted, changed, commit_number, noted};
+ghost use Rattle.legal_history.specs.Agrees.{is_open, is_kept};
+ghost use Rattle.legal_history.specs.Rows.{Row, last_of, row_at, chosen, begun, committed, finished, aborted, deleted, changed, commit_number, noted};
 
 use crate::session::Session;
 use crate::stage::Stage;
@@ -44,7 +45,7 @@ impl Sessions {
     }
 
     pub(crate) fn begin(&self, session: u32) -> Option<u32>
-        ensures { result ≡ slice_get (row_at session self.now).begins 0 }
+        ensures { result ≡ last_of (row_at session self.now).begins }
     {
         match self.rows.get(session as usize) {
             Some(row) => Some(row.begin()),
@@ -61,6 +62,18 @@ impl Sessions {
         }
     }
 
+    pub(crate) fn is_unfinished(&self, session: u32) -> bool
+        ensures { result ≡ is_open (row_at session self.now) }
+    {
+        self.begin(session).is_some() && matches!(self.stage(session), Stage::Unfinished)
+    }
+
+    pub(crate) fn is_retained(&self, session: u32) -> bool
+        ensures { result ≡ is_kept (row_at session self.now) }
+    {
+        matches!(self.stage(session), Stage::Retained)
+    }
+
     pub(crate) fn choices(&self, session: u32) -> &[u32]
         ensures { result.now ≡ (row_at session self.now).choices }
     {
@@ -68,6 +81,12 @@ impl Sessions {
             Some(row) => row.choices(),
             None => &[],
         }
+    }
+
+    pub(crate) fn last_choice(&self, session: u32) -> Option<u32>
+        ensures { result ≡ last_of (row_at session self.now).choices }
+    {
+        self.choices(session).last().copied()
     }
 
     pub(crate) fn commits(&self, session: u32) -> &[u32]
@@ -141,12 +160,19 @@ impl Sessions {
         }
     }
 
-    fn begin_session(&mut self, number: u32) -> Result<(), Memory>
+    pub(crate) fn begin_session(&mut self, number: u32) -> Result<(), Memory>
         ensures ok { OnOk result (self.new ≡ self.old ++ begun number ∷ []) }
         ensures err { OnErr result (self.new ≡ self.old) }
     {
         self.rows.push(Session::new(self.alloc, number))?;
         Ok(())
+    }
+
+    // Takes the last session away.
+    pub(crate) fn give_up_last(&mut self)
+        ensures { (rows : List Row) (row : Row) → self.old ≡ rows ++ row ∷ [] → self.new ≡ rows }
+    {
+        let _ = self.rows.pop();
     }
 
     fn choose(
