@@ -12,7 +12,7 @@ pub mod BegunLaws
 pub mod EndLaws
 pub mod ObjectLaws
 pub mod BoundLaws
-mod OwnEndLaws
+pub mod OwnEndLaws
 pub mod OtherLaws
 mod RecountLaws
 pub mod NumberLaws

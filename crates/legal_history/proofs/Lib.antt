@@ -7,3 +7,4 @@ mod NameOrder
 mod NameSteps
 mod OwnSmall
 mod ReadLaws
+mod KeptLaws

@@ -19,6 +19,7 @@ use Rattle.history_laws.proofs.Allowed.{IsStep, step}
 use Rattle.history_laws.proofs.NameLaws.{holds, holds_before, in_under, under_free, sessions_none, sessions_one, sessions_same, cases_Option, free_none, begun_once}
 use Rattle.history_laws.proofs.StandingLaws.{made}
 use Rattle.legal_history.specs.Names.{name_cmp, session_at, OneNamed, SameNames, AreNames}
+use Rattle.legal_history.specs.Parts.{NamesNoted}
 use Rattle.legal_history.proofs.NameOrder.{exact_names}
 
 -- ---- the tree
@@ -122,3 +123,22 @@ unfolding retained
 retained_first rules name past legal =
     find_first (λ s. is_retained s past) (sessions_under name past)
     (weaker_none (λ s. is_retained s past) (holds past) (rest_of (sessions_under name past)) (λ s kept. or_right (is_unfinished s past) (is_retained s past) kept) (older_free rules name past legal))
+
+-- ---- every entry
+
+nothing : Option ℕ
+nothing = None
+
+none_either : (b : Bool) → cond b nothing nothing ≡ nothing
+none_either true = refl
+none_either false = refl
+
+noted_at : (author : ℕ) (point : Point) (past : List Entry) (m n : tree.BTreeMap (List ℕ) ℕ) → NamesNoted point m n → AreNames m past → AreNames n (made author point ∷ past)
+unfolding session_under nothing
+noted_at author (Begin name (Some s)) past m n one are = begun_named m n author name s past one are
+noted_at author (Begin name None) past m n same are = other_named m n (made author (Begin name None)) past (λ q. none_either (bytes_eq q name)) same are
+noted_at author point past m n same are = other_named m n (made author point) past (λ q. refl) same are
+
+-- what is kept of the names is so again after one entry more
+pub names_noted : (entry : Entry) (past : List Entry) (m n : tree.BTreeMap (List ℕ) ℕ) → NamesNoted entry.point m n → AreNames m past → AreNames n (entry ∷ past)
+names_noted entry past m n noted are = noted_at entry.author entry.point past m n noted are

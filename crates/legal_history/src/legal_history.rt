@@ -1,5 +1,5 @@
 // A legal history and what has become of its sessions and readings.
-ghost use Rattle.std.specs.Prelude.{◌≡◌, ◌+◌, ◌^◌, ◌<◌, ◌∷◌, ◌++◌, [], true, option_copied, slice_get, unwrap_or, vec_len, vec_capacity, IsOk, OnOk, OnErr};
+ghost use Rattle.std.specs.Prelude.{◌≡◌, ◌+◌, ◌^◌, ◌<◌, ◌≤◌, ◌∷◌, ◌++◌, [], true, option_copied, slice_get, unwrap_or, vec_len, vec_capacity, IsOk, OnOk, OnErr};
 ghost use Rattle.std.specs.Option.{option_and_then};
 ghost use Rattle.history.specs.Legal.{may_follow, is_legal};
 ghost use Rattle.history.specs.OwnEnd.{own_end};
@@ -84,10 +84,7 @@ impl LegalHistory {
         ensures { result ≡ is_held name.now (past_of self.now) }
     {
         match self.parts.names.get(name) {
-            Some(session) => {
-                self.parts.sessions.is_unfinished(session)
-                    || self.parts.sessions.is_retained(session)
-            }
+            Some(session) => self.parts.sessions.holds(session),
             None => false,
         }
     }
@@ -97,8 +94,8 @@ impl LegalHistory {
         ensures { result ≡ retained name.now (past_of self.now) }
     {
         match self.parts.names.get(name) {
-            Some(session) if self.parts.sessions.is_retained(session) => Some(session),
-            _ => None,
+            Some(session) => self.parts.sessions.if_retained(session),
+            None => None,
         }
     }
 
@@ -110,6 +107,7 @@ impl LegalHistory {
     }
 
     /// Whether the session was begun by this author.
+    #[tactic(auto, unfolding(history::specs::Sessions::is_begun_by, history::specs::Sessions::author_of))]
     pub fn is_begun_by(&self, author: u32, session: u32) -> bool
         ensures { result ≡ is_begun_by author session (past_of self.now) }
     {
@@ -127,6 +125,7 @@ impl LegalHistory {
     }
 
     /// The hooks of the session's last choice.
+    #[tactic(auto, unfolding(history::specs::Sessions::last_hooks))]
     pub fn last_hooks(&self, session: u32) -> &[Name]
         ensures { result.now ≡ last_hooks session (past_of self.now) }
     {
@@ -137,6 +136,7 @@ impl LegalHistory {
     }
 
     /// The champions of the session's last choice, whether it is pending or not.
+    #[tactic(auto, unfolding(history_laws::specs::EntryNumbers::last_champions))]
     pub fn last_champions(&self, session: u32) -> &[ManifestId]
         ensures { result.now ≡ last_champions session (past_of self.now) }
     {
@@ -182,6 +182,7 @@ impl LegalHistory {
     }
 
     /// Whether the reading was begun by this author.
+    #[tactic(auto, unfolding(history::specs::Sessions::is_looked_by, history::specs::Sessions::author_of))]
     pub fn is_looked_by(&self, author: u32, reader: u32) -> bool
         ensures { result ≡ is_looked_by author reader (past_of self.now) }
     {
@@ -192,6 +193,7 @@ impl LegalHistory {
     }
 
     /// What the reading was begun with: its number and the session whose stream it reads.
+    #[tactic(auto, unfolding(history_laws::specs::EntryNumbers::reading))]
     pub fn reading(&self, reader: u32) -> Option<Seen>
         ensures { result ≡ reading reader (past_of self.now) }
     {
@@ -298,7 +300,7 @@ fn push_reserved(entries: &mut Vec<Entry>, entry: Entry)
     requires { vec_len entries.old < vec_capacity entries.old }
     ensures items { entries.new.items ≡ entries.old.items ++ entry ∷ [] }
     ensures len { vec_len entries.new ≡ vec_len entries.old + 1 }
-    ensures capacity { vec_capacity entries.new ≡ vec_capacity entries.old }
+    ensures capacity { vec_capacity entries.old ≤ vec_capacity entries.new }
 {
     match entries.push(entry) {
         Ok(()) => {}

@@ -1,5 +1,5 @@
 // What is kept of the sessions, of which a session's number is its place.
-ghost use Rattle.std.specs.Prelude.{◌≡◌, ◌∷◌, ◌++◌, [], map, length, true, List, IfOk, OnOk, OnErr, IsOk};
+ghost use Rattle.std.specs.Prelude.{◌≡◌, ◌||◌, if◌then◌else◌, ◌∷◌, ◌++◌, [], map, length, true, List, IfOk, OnOk, OnErr, IsOk};
 ghost use Rattle.history.specs.OwnEnd.{end_among};
 ghost use Rattle.legal_history.specs.Recorded.{is_end};
 ghost use Rattle.legal_history.specs.Agrees.{is_open, is_kept};
@@ -72,6 +72,24 @@ impl Sessions {
         ensures { result ≡ is_kept (row_at session self.now) }
     {
         matches!(self.stage(session), Stage::Retained)
+    }
+
+    // The session, if it is retained.
+    pub(crate) fn if_retained(&self, session: u32) -> Option<u32>
+        ensures { result ≡ (if is_kept (row_at session self.now) then Some session else None) }
+    {
+        if self.is_retained(session) {
+            Some(session)
+        } else {
+            None
+        }
+    }
+
+    // Whether the session holds its name.
+    pub(crate) fn holds(&self, session: u32) -> bool
+        ensures { result ≡ (is_open (row_at session self.now) || is_kept (row_at session self.now)) }
+    {
+        self.is_unfinished(session) || self.is_retained(session)
     }
 
     pub(crate) fn choices(&self, session: u32) -> &[u32]
