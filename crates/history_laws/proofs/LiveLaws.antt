@@ -13,7 +13,7 @@ use Rattle.history_laws.proofs.SessionLaws.{has_older}
 use Rattle.history_laws.proofs.StandingLaws.{stands_committed, what_stands}
 use Rattle.history_laws.proofs.NeedLaws.{StandsSomewhere, listed_manifest, chosen_somewhere, pending_one, pending_same, pending_none, champion_from}
 
-somewhere_committed : (rules : Rules) (id : ManifestId) (past : List Entry) → is_legal rules past ≡ true → StandsSomewhere id past → has (commits_manifest id) past ≡ true
+pub somewhere_committed : (rules : Rules) (id : ManifestId) (past : List Entry) → is_legal rules past ≡ true → StandsSomewhere id past → has (commits_manifest id) past ≡ true
 somewhere_committed rules id past legal at =
     subst (λ (m : ManifestId). has (commits_manifest m) past ≡ true) (sym at.same)
     (stands_committed at.stands past (what_stands rules at.bound at.hook past legal at.stands at.listed))

@@ -19,7 +19,7 @@ abbrev pub holds : List Entry → ℕ → Bool
 holds past s = is_unfinished s past || is_retained s past
 
 -- an entry that does not begin the session does not make it hold its name again
-holds_before : (rules : Rules) (s : ℕ) (entry : Entry) (past : List Entry) → IsStep rules entry past → begins s entry.point ≡ false → holds (entry ∷ past) s ≡ true → holds past s ≡ true
+pub holds_before : (rules : Rules) (s : ℕ) (entry : Entry) (past : List Entry) → IsStep rules entry past → begins s entry.point ≡ false → holds (entry ∷ past) s ≡ true → holds past s ≡ true
 holds_before rules s entry past now other held = elim (or_cases _ _ held) [
   | inl open_after ↦
       let parts = unfinished_is _ _ open_after in
@@ -46,13 +46,13 @@ under_begins name s (Begin other session) e =
     ap (is_number s) is ∙ eq-eqb s s refl
 under_begins name s _ e = absurd (cc)
 
-in_under : (name : List ℕ) (s : ℕ) (past : List Entry) → In s (sessions_under name past) → has (begins s) past ≡ true
+pub in_under : (name : List ℕ) (s : ℕ) (past : List Entry) → In s (sessions_under name past) → has (begins s) past ≡ true
 unfolding sessions_under
 in_under name s past h =
     let found = filter_map_in (λ (entry : Entry). session_under name entry.point) s past h in
     has_from (begins s) found.0 past found.1 (under_begins name s found.0.point found.2)
 
-under_free : (rules : Rules) (past : List Entry) (author : ℕ) (name : List ℕ) (s : ℕ) (point : Point) → is_allowed rules past author point ≡ true → session_under name point ≡ Some s → is_held name past ≡ false
+pub under_free : (rules : Rules) (past : List Entry) (author : ℕ) (name : List ℕ) (s : ℕ) (point : Point) → is_allowed rules past author point ≡ true → session_under name point ≡ Some s → is_held name past ≡ false
 unfolding session_under
 under_free rules past author name s (Begin other None) allowed e = absurd (let is = (chosen_some (bytes_eq name other) None s e).1 in cc)
 under_free rules past author name s (Begin other (Some t)) allowed e =
@@ -60,29 +60,29 @@ under_free rules past author name s (Begin other (Some t)) allowed e =
     subst (λ n. is_held n past ≡ false) (sym same) (begin_says rules past author other t allowed).free
 under_free rules past author name s _ allowed e = absurd (cc)
 
-sessions_none : (name : List ℕ) → sessions_under name [] ≡ []
+pub sessions_none : (name : List ℕ) → sessions_under name [] ≡ []
 unfolding sessions_under
 sessions_none name = refl
 
 -- the sessions under a name after an entry that begins one, and after another
-sessions_one : (name : List ℕ) (s : ℕ) (entry : Entry) (past : List Entry) → session_under name entry.point ≡ Some s → sessions_under name (entry ∷ past) ≡ s ∷ sessions_under name past
+pub sessions_one : (name : List ℕ) (s : ℕ) (entry : Entry) (past : List Entry) → session_under name entry.point ≡ Some s → sessions_under name (entry ∷ past) ≡ s ∷ sessions_under name past
 unfolding sessions_under
 sessions_one name s entry past e = rw e refl
 
-sessions_same : (name : List ℕ) (entry : Entry) (past : List Entry) → session_under name entry.point ≡ None → sessions_under name (entry ∷ past) ≡ sessions_under name past
+pub sessions_same : (name : List ℕ) (entry : Entry) (past : List Entry) → session_under name entry.point ≡ None → sessions_under name (entry ∷ past) ≡ sessions_under name past
 unfolding sessions_under
 sessions_same name entry past e = rw e refl
 
-cases_Option : (o : Option ℕ) → (o ≡ None) ⊎ ((s : ℕ) × (o ≡ Some s))
+pub cases_Option : (o : Option ℕ) → (o ≡ None) ⊎ ((s : ℕ) × (o ≡ Some s))
 cases_Option None = inl refl
 cases_Option (Some s) = inr (s, refl)
 
-free_none : (name : List ℕ) (past : List Entry) → is_held name past ≡ false → list_any (holds past) (sessions_under name past) ≡ false
+pub free_none : (name : List ℕ) (past : List Entry) → is_held name past ≡ false → list_any (holds past) (sessions_under name past) ≡ false
 unfolding is_held
 free_none name past free = free
 
 -- an entry begins no session that began before
-begun_once : (rules : Rules) (s : ℕ) (entry : Entry) (past : List Entry) → IsStep rules entry past → has (begins s) past ≡ true → begins s entry.point ≡ false
+pub begun_once : (rules : Rules) (s : ℕ) (entry : Entry) (past : List Entry) → IsStep rules entry past → has (begins s) past ≡ true → begins s entry.point ≡ false
 begun_once rules s entry past now begun = false_from_ne_true _ (λ here.
     let next : s ≡ session_count past = begins_next rules past entry.author s entry.point now.allowed here in
     let below : s < session_count past = begun_below rules s past now.legal begun in

@@ -1,0 +1,10 @@
+mod GreatestLaws
+mod PlaceLaws
+mod SessionSteps
+mod TableSteps
+mod ReadingSteps
+mod NameOrder
+mod NameSteps
+mod OwnSmall
+mod ReadLaws
+mod KeptLaws
