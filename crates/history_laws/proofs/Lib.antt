@@ -15,3 +15,5 @@ pub mod BoundLaws
 mod OwnEndLaws
 mod OtherLaws
 mod RecountLaws
+pub mod MovedLaws
+pub mod UnfinishedLaws

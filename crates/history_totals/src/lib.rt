@@ -1,0 +1,2 @@
+//! The numbers of a history that a store keeps running.
+#![tactic(auto)]
