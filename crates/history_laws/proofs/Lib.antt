@@ -8,7 +8,7 @@ pub mod CountLaws
 mod ListLaws
 pub mod NeedLaws
 mod LiveLaws
-mod BegunLaws
+pub mod BegunLaws
 mod EndLaws
 pub mod ObjectLaws
 pub mod BoundLaws
@@ -17,3 +17,4 @@ mod OtherLaws
 mod RecountLaws
 pub mod MovedLaws
 pub mod UnfinishedLaws
+pub mod NumberLaws

@@ -2,7 +2,7 @@
 use Rattle.std.proofs.Common.{◌≡◌, ℕ, ◌+◌, Bool, true, false, eqb, cond, List, [], ◌∷◌, Option, Some, None, refl, sym, ap, ◌∙◌, inl, inr, arith, eqb-true}
 use Rattle.std.specs.List.{sum_by, count_by}
 use Rattle.std.specs.Option.{option_map_or}
-use Rattle.std.proofs.lemmas.Bool.{cases_Bool}
+use Rattle.std.proofs.lemmas.Bool.{cases_Bool, false_from_ne_true, both_ways, eq-eqb}
 use Rattle.std.proofs.lemmas.List.Sums.{sum_by-cons}
 use Rattle.history.specs.Sessions.{is_number}
 
@@ -29,6 +29,9 @@ sum_parts f part g (x ∷ xs) each =
     let right = sum_by-cons g x xs in
     let here = each x in
     omega (arith, rest, left, middle, right, here)
+
+pub turned : (a b : ℕ) → eqb a b ≡ false → eqb b a ≡ false
+turned a b other = false_from_ne_true _ (λ same. both_ways _ other (eq-eqb a b (sym (eqb-true _ _ same))))
 
 -- two tests of numbers that part at one number, which passes the second alone
 pub record IsMoved (q r : ℕ → Bool) (s : ℕ) : Type 0 where

@@ -14,7 +14,7 @@ use Rattle.ss_base.proofs.MemberLaws.{In, any_in, count_one, count_other, count_
 use Rattle.history_laws.proofs.Allowed.{step, closes_open, begins_next}
 use Rattle.history_laws.proofs.SessionLaws.{has_same, has_cases, has_now, has_older, has_none, unfinished_is, unfinished_from, closed_not_unfinished, begun_below}
 use Rattle.history_laws.proofs.BegunLaws.{begun_once, looked_once, looks_next, looked_below}
-use Rattle.history_laws.proofs.MovedLaws.{IsMoved, sum_same, count_moved, count_level}
+use Rattle.history_laws.proofs.MovedLaws.{IsMoved, turned, sum_same, count_moved, count_level}
 
 -- ---- how many an entry begins and ends
 
@@ -40,9 +40,6 @@ ends_of (Done reader) = 1
 ends_of _ = 0
 
 -- ---- what an entry does
-
-turned : (a b : ℕ) → eqb a b ≡ false → eqb b a ≡ false
-turned a b other = false_from_ne_true _ (λ same. both_ways _ other (eq-eqb a b (sym (eqb-true _ _ same))))
 
 -- an entry that begins this session and closes none
 record IsBegin (s : ℕ) (point : Point) : Type 0 where
@@ -96,7 +93,7 @@ some_count p x (y ∷ ys) (inr later) e =
     ]
 
 -- a session that began in these entries began once
-once : (rules : Rules) (s : ℕ) (past : List Entry) → is_legal rules past ≡ true → has (begins s) past ≡ true → count_by (λ (e : Entry). begins s e.point) past ≡ 1
+pub once : (rules : Rules) (s : ℕ) (past : List Entry) → is_legal rules past ≡ true → has (begins s) past ≡ true → count_by (λ (e : Entry). begins s e.point) past ≡ 1
 unfolding has
 once rules s past legal begun =
     let most = begun_once rules s past legal in
