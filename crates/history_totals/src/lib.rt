@@ -6,3 +6,8 @@ mod tally;
 mod totals;
 
 pub use tally::Tally;
+
+#[cfg(test)]
+mod entry_rows;
+#[cfg(test)]
+mod tests;
