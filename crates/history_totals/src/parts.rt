@@ -9,10 +9,7 @@ use history::{Entry, Point};
 pub(crate) fn gives_stream(point: &Point) -> bool
     ensures { result ≡ gives_stream point.now }
 {
-    match point {
-        Point::Finish { .. } => true,
-        _ => false,
-    }
+    matches!(point, Point::Finish { .. })
 }
 
 #[tactic(auto, unfolding(crate::specs::Parts::takes_stream))]
@@ -40,12 +37,10 @@ pub(crate) fn starts(point: &Point) -> bool
 pub(crate) fn stops(point: &Point) -> bool
     ensures { result ≡ stops point.now }
 {
-    match point {
-        Point::Finish { .. } => true,
-        Point::Abort { .. } => true,
-        Point::Done { .. } => true,
-        _ => false,
-    }
+    matches!(
+        point,
+        Point::Finish { .. } | Point::Abort { .. } | Point::Done { .. }
+    )
 }
 
 #[tactic(auto, unfolding(history::specs::TotalsOf::bytes_stored))]
