@@ -1,0 +1,4 @@
+mod CommitLaws
+mod StreamLaws
+mod OpenLaws
+mod SumLaws
