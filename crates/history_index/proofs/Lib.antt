@@ -1,0 +1,3 @@
+pub mod RetireLaws
+pub mod ChoiceLaws
+pub mod FollowLaws
