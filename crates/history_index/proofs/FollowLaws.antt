@@ -1,6 +1,7 @@
 -- An index that follows a legal history.
 use Rattle.std.proofs.Common.{◌≡◌, ℕ, suc, ◌+◌, ◌-◌, ◌<◌, ◌≤◌, ◌^◌, Bool, true, false, not, ◌&&◌, ◌||◌, eqb, List, [], ◌∷◌, length, reverse, Option, Some, None, unwrap_or, IsTrue, All, refl, sym, ap, ◌∙◌, subst, inl, inr, arith, eqb-true}
 use mathlib.Core.List.{map}
+use Rattle.std.specs.FinMap as finite
 use Rattle.std.specs.List.{IsDistinct, list_all, count_by}
 use Rattle.std.proofs.lemmas.Bool.{false≢true, cases_Bool, and_parts, and_from, not-true, not_from_false, false_from_ne_true, both_ways, or_left, or_right, leb-true, eq-eqb}
 use Rattle.std.proofs.lemmas.List.{reverse-reverse, length-reverse, length-map}
@@ -11,7 +12,7 @@ use Rattle.ss_base.specs.declared.ids.Standing.{Standing}
 use Rattle.ss_base.specs.declared.name.Name.{Name}
 use Rattle.ss_base.specs.Ids.{same_name, same_manifest, has_name, are_distinct}
 use Rattle.ss_base.specs.Champions.{stands_in}
-use Rattle.sparse_index.specs.Lists.{Lists, list_at, is_ready}
+use Rattle.sparse_index.specs.Lists.{name_cmp, Lists, list_at, is_ready}
 use Rattle.journal_entry.specs.declared.entry.Entry.{Entry}
 use Rattle.journal_entry.specs.declared.entry.Point.{Point}
 use Rattle.journal_entry.specs.declared.entry.Point.TheVariants.{Choose, Commit, Abort, Delete}
@@ -28,7 +29,7 @@ use Rattle.ss_base.proofs.MemberLaws.{In, in_any, none_in, none_from, any_in, Al
 use Rattle.ss_base.proofs.IdLaws.{same_name-self, same_name-true, same_manifest-true}
 use Rattle.ss_base.proofs.ApartLaws.{Apart, IsDistinct-from_apart}
 use Rattle.history_laws.proofs.Allowed.{IsStep, step, choose_says, commit_says}
-use Rattle.history_laws.proofs.SessionLaws.{has_cases, has_now, has_older, committed_below}
+use Rattle.history_laws.proofs.SessionLaws.{has_cases, has_none, has_now, has_older, committed_below}
 use Rattle.history_laws.proofs.StandingLaws.{made, stands_committed, what_stands}
 use Rattle.history_laws.proofs.OnceLaws.{chosen_apart}
 use Rattle.history_laws.proofs.NumberLaws.{numbers_length}
@@ -184,6 +185,14 @@ unfolding names_hook has_name
 in_hooks hook point has =
     let found = any_in (same_name hook) (hooks_chosen point) has in
     subst (λ (name : Name). In name (hooks_chosen point)) (sym (same_name-true hook found.0 found.2)) found.1
+
+-- no entries
+pub first_index : (bound : ℕ) → IsIndexOf bound finite.empty []
+unfolding standing
+first_index bound = record {
+  stood = λ hook. ap (λ (o : Option (List Standing)). unwrap_or o []) (finite.get-empty name_cmp hook);
+  ready = λ hook names. absurd (both_ways _ (has_none (names_hook hook)) names)
+}
 
 all_in : {X : Type 0} (P : X → Type 0) (x : X) (xs : List X) → All P xs → In x xs → P x
 all_in P x [] all h = absurd h

@@ -1,5 +1,5 @@
 // One entry more, and the room for it.
-ghost use Rattle.std.specs.Prelude.{◌≡◌, ℕ, ◌<◌, ◌^◌, true, List, ◌∷◌, length, reverse, IsTrue, OnOk, All};
+ghost use Rattle.std.specs.Prelude.{◌≡◌, ℕ, ◌<◌, ◌≤◌, ◌^◌, true, List, [], ◌∷◌, length, reverse, IsTrue, OnOk, All};
 ghost use Rattle.sparse_index.specs.Lists.{list_at, is_ready};
 ghost use Rattle.ss_base.specs.declared.name.Name.{Name as Hook};
 ghost use Rattle.journal_entry.specs.declared.entry.Entry.{Entry as Recorded};
@@ -16,6 +16,15 @@ use history::Rules;
 use journal_entry::{Entry, Point};
 use sparse_index::Index;
 use ss_base::{Memory, Standing};
+use std::alloc::Global;
+
+/// The index of no entries, with its lists on `alloc`. `L`, which is from 1 to 255, bounds each list.
+pub fn empty_index<const L: usize>(alloc: Global) -> Index<L>
+    requires { (1 ≤ L) × (L ≤ 255) }
+    ensures { IsIndexOf L result [] }
+{
+    Index::new(alloc)
+}
 
 /// Makes room for what the entry needs of the index: the hooks of a Choose are ready then, and other entries need
 /// none. What stands anywhere is as before, also after want of memory.

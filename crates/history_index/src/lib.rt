@@ -5,4 +5,7 @@ mod choices;
 mod follow;
 mod retire;
 
-pub use follow::{add_entry, make_room};
+pub use follow::{add_entry, empty_index, make_room};
+
+#[cfg(test)]
+mod tests;
