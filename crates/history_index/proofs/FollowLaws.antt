@@ -1,9 +1,8 @@
 -- An index that follows a legal history.
-use Rattle.std.proofs.Common.{◌≡◌, ℕ, suc, ◌+◌, ◌-◌, ◌<◌, ◌≤◌, ◌^◌, Bool, true, false, not, ◌&&◌, ◌||◌, eqb, List, [], ◌∷◌, length, reverse, Option, Some, None, unwrap_or, IsTrue, All, refl, sym, ap, ◌∙◌, subst, inl, inr, arith, eqb-true}
-use mathlib.Core.List.{map}
+use Rattle.std.proofs.Common.{◌≡◌, ℕ, suc, ◌+◌, ◌-◌, ◌<◌, ◌≤◌, ◌^◌, Bool, true, false, not, eqb, List, [], ◌∷◌, length, reverse, Option, Some, None, unwrap_or, IsTrue, All, refl, sym, ap, ◌∙◌, subst, inl, inr, arith, eqb-true}
 use Rattle.std.specs.FinMap as finite
-use Rattle.std.specs.List.{IsDistinct, list_all, count_by}
-use Rattle.std.proofs.lemmas.Bool.{false≢true, cases_Bool, and_parts, and_from, not-true, not_from_false, false_from_ne_true, both_ways, or_left, or_right, leb-true, eq-eqb}
+use Rattle.std.specs.List.{IsDistinct, list_all}
+use Rattle.std.proofs.lemmas.Bool.{cases_Bool, and_parts, and_from, not-true, not_from_false, false_from_ne_true, both_ways, or_left, or_right, leb-true}
 use Rattle.std.proofs.lemmas.List.{reverse-reverse, length-reverse, length-map}
 use Rattle.std.proofs.lemmas.List.Sums.{count_by-le-length}
 use Rattle.ss_base.specs.declared.ids.ContainerId.{ContainerId}
@@ -191,7 +190,7 @@ pub first_index : (bound : ℕ) → IsIndexOf bound finite.empty []
 unfolding standing
 first_index bound = record {
   stood = λ hook. ap (λ (o : Option (List Standing)). unwrap_or o []) (finite.get-empty name_cmp hook);
-  ready = λ hook names. absurd (both_ways _ (has_none (names_hook hook)) names)
+  ready = λ hook names. absurd (both_ways _ (has_none (names_hook hook)) names);
 }
 
 all_in : {X : Type 0} (P : X → Type 0) (x : X) (xs : List X) → All P xs → In x xs → P x

@@ -1,17 +1,16 @@
 -- A list without the manifests of a session's first choices.
 use Rattle.std.proofs.Common.{◌≡◌, ℕ, ◌+◌, ◌<◌, Bool, true, false, not, ◌&&◌, ◌||◌, eqb, ltb, cond, List, [], ◌∷◌, length, get_or, slice_get, Option, Some, None, refl, sym, ap, ◌∙◌, inl, inr, arith, eqb-true}
 use Rattle.std.specs.List.{filter, list_all}
-use Rattle.std.specs.Option.{option_map, unwrap_or}
 use Rattle.std.proofs.lemmas.Bool.{false≢true, cases_Bool, lt-ltb}
 use Rattle.std.proofs.lemmas.Bool.Decides.{nat_tests}
 use Rattle.std.proofs.lemmas.Option.{slice_get_within, slice_get-get_or}
 use Rattle.ss_base.specs.declared.ids.Standing.{Standing}
 use Rattle.ss_base.specs.declared.name.Name.{Name}
-use Rattle.ss_base.specs.Ids.{has_name, same_manifest}
+use Rattle.ss_base.specs.Ids.{has_name}
 use Rattle.ss_base.specs.Standings.{without_manifest, without_session}
 use Rattle.journal_entry.specs.declared.entry.Entry.{Entry}
 use Rattle.history_index.specs.Choices.{hooks_at, hooks_of, was_chosen}
-use Rattle.ss_base.proofs.MemberLaws.{In, all_in}
+use Rattle.ss_base.proofs.MemberLaws.{all_in}
 use Rattle.ss_base.proofs.StandingLaws.{filter_same, filter_twice}
 
 -- ---- tests
