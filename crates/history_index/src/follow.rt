@@ -56,7 +56,7 @@ pub fn add_entry<const L: usize>(
     change(index, before, &entry.point, choices, number);
 }
 
-// The number of the entry that comes next, where there may be so many entries.
+// The number of the next entry, where there are fewer than `most`.
 fn next_number(before: &[Entry], most: u32) -> u32
     requires { length before.now < most }
     ensures number { result ≡ length before.now }
