@@ -1,0 +1,4 @@
+pub mod RetireLaws
+pub mod ChoiceLaws
+pub mod FollowLaws
+pub mod TestLaws
