@@ -1,19 +1,18 @@
 // A shelf over the files of a folder: the trusted edge, of whose bytes no contract speaks.
 ghost use Rattle.std.specs.Prelude.{◌≡◌, ◌≤◌, Ok, Some, None, IfOk, string_bytes};
-ghost use Rattle.std.specs.Option.{option_map};
-ghost use Rattle.std.specs.Io.{ReadsAtMost};
-ghost use Rattle.outside.specs.DirShelf.{leads_out, file_path};
+ghost use Rattle.outside.specs.DirShelf.{file_path};
 ghost use Rattle.outside.specs.Faults.{Rose, HasCause};
 
+use crate::file_error::FileError;
+use crate::file_ops::{is_there, read_bytes};
+use crate::open_files::OpenFiles;
+use crate::paths::path_of;
+use crate::written_files::WrittenFiles;
 use crate::{Shelf, Trouble};
-use ss_base::Memory;
 use std::alloc::Global;
-use std::fs::OpenOptions;
-use std::io::{ErrorKind, Write};
 use std::marker::Model;
 use std::os::unix::fs::FileExt;
 use std::rt::Files;
-use std::{fs, io};
 
 /// A shelf over the files of one folder. An object is the file of its name. A call that the system interrupted is
 /// made again; each other `Err` of std's is a fault. It tells no bytes and keeps no record, only its counts.
@@ -25,6 +24,8 @@ use std::{fs, io};
 pub struct DirShelf<'a, R: Files + Sync> {
     rt: &'a R,
     folder: String,
+    readers: OpenFiles<R::File>,
+    written: WrittenFiles<R>,
     reads: u64,
     faults: u64,
 }
@@ -46,9 +47,20 @@ impl<'a, R: Files + Sync> DirShelf<'a, R> {
         DirShelf {
             rt,
             folder,
+            readers: OpenFiles::new(),
+            written: WrittenFiles::new(),
             reads: 0,
             faults: 0,
         }
+    }
+
+    /// Puts on the disk what calls of this handle that answered Ok created, appended or erased: first the files'
+    /// bytes, then their folder's entries. After a `Fault` nothing is known of what it was to put there.
+    pub fn sync(&mut self) -> Result<(), Trouble>
+        ensures reads { self.new.reads ≡ self.old.reads }
+        ensures cause { HasCause self.old.faults self.new.faults result }
+    {
+        counted(&mut self.faults, self.written.sync(self.rt))
     }
 }
 
@@ -76,25 +88,25 @@ where
     fn read(&mut self, alloc: Global, name: &str, at: u64, max: usize) -> Result<Vec<u8>, Trouble> {
         self.reads = self.reads.wrapping_add(1);
         let path = path_or_fault(&mut self.faults, &self.folder, name)?;
-        let mut bytes = vec![in alloc; 0; max]?;
-        let given = counted(&mut self.faults, read_file(self.rt, &path, at, &mut bytes))?;
-        bytes.truncate(given);
-        Ok(bytes)
+        let bytes = read_bytes(self.rt, &mut self.readers, alloc, path, at, max);
+        counted(&mut self.faults, bytes)
     }
 
     fn create(&mut self, name: &str, bytes: &[u8]) -> Result<(), Trouble> {
         let path = path_or_fault(&mut self.faults, &self.folder, name)?;
-        counted(&mut self.faults, fs::write(self.rt, path.as_str(), bytes))
+        self.readers.let_go(&path);
+        counted(&mut self.faults, self.written.create(self.rt, path, bytes))
     }
 
     fn append(&mut self, name: &str, bytes: &[u8]) -> Result<(), Trouble> {
         let path = path_or_fault(&mut self.faults, &self.folder, name)?;
-        counted(&mut self.faults, append_file(self.rt, &path, bytes))
+        counted(&mut self.faults, self.written.append(self.rt, path, bytes))
     }
 
     fn erase(&mut self, name: &str) -> Result<(), Trouble> {
         let path = path_or_fault(&mut self.faults, &self.folder, name)?;
-        counted(&mut self.faults, remove_file(self.rt, &path))
+        self.readers.let_go(&path);
+        counted(&mut self.faults, self.written.erase(self.rt, &path))
     }
 }
 
@@ -108,14 +120,15 @@ fn fault(faults: &mut u64) -> Trouble
     Trouble::Fault
 }
 
-// Passes on what std answered, and counts an `Err`.
-fn counted<T>(faults: &mut u64, answer: io::Result<T>) -> Result<T, Trouble>
+// Passes on an answer, and counts an `Err` of the files.
+fn counted<T>(faults: &mut u64, answer: Result<T, FileError>) -> Result<T, Trouble>
     ensures value { IfOk result (λ value. answer ≡ Ok value) }
     ensures cause { HasCause faults.old faults.new result }
 {
     match answer {
         Ok(value) => Ok(value),
-        Err(_) => Err(fault(faults)),
+        Err(FileError::Io(_)) => Err(fault(faults)),
+        Err(FileError::Memory) => Err(Trouble::Memory),
     }
 }
 
@@ -128,98 +141,4 @@ fn path_or_fault(faults: &mut u64, folder: &String, name: &str) -> Result<String
         Some(path) => Ok(path),
         None => Err(fault(faults)),
     }
-}
-
-// The path of the file of this name: the folder, `/` and the name. A name that has `..` among its parts has none.
-fn path_of(folder: &String, name: &str) -> Result<Option<String>, Memory>
-    ensures { IfOk result (λ path. option_map string_bytes path ≡ file_path (string_bytes folder.now) name.now) }
-{
-    if leads_out(name) {
-        return Ok(None);
-    }
-    let mut path = folder.clone()?;
-    path.push('/')?;
-    path.push_str(name)?;
-    Ok(Some(path))
-}
-
-// Whether `..` is among the parts of the name.
-fn leads_out(name: &str) -> bool
-    ensures { result ≡ leads_out name.now }
-{
-    name.as_bytes()
-        .split(|b| *b == b'/')
-        .any(|part| part == b"..".as_slice())
-}
-
-// Whether this is what std answers of a file that is not there.
-fn is_absent(e: &io::Error) -> bool {
-    matches!(e.kind(), ErrorKind::NotFound | ErrorKind::NotADirectory)
-}
-
-// Whether there is such a file. It is not opened.
-fn is_there(rt: &impl Files, path: &str) -> io::Result<bool> {
-    for _ in 0..u64::MAX {
-        match fs::metadata(rt, path) {
-            Ok(_) => return Ok(true),
-            Err(e) if is_absent(&e) => return Ok(false),
-            Err(e) if e.kind() == ErrorKind::Interrupted => {}
-            Err(e) => return Err(e),
-        }
-    }
-    Err(io::Error::from(ErrorKind::Interrupted))
-}
-
-// One open, and reads from a place on. A file that is not there gives no bytes.
-fn read_file<R: Files>(rt: &R, path: &str, at: u64, bytes: &mut [u8]) -> io::Result<usize>
-where
-    R::File: FileExt,
-    ensures { ReadsAtMost result bytes.new }
-{
-    match fs::open(rt, path) {
-        Ok(file) => fill_from(&file, at, bytes),
-        Err(e) if is_absent(&e) => Ok(0),
-        Err(e) => Err(e),
-    }
-}
-
-// Reads from a place on until the bytes are full or the file ends, and answers how many came.
-pub(crate) fn fill_from<F: FileExt>(file: &F, at: u64, bytes: &mut [u8]) -> io::Result<usize>
-    ensures { ReadsAtMost result bytes.new }
-{
-    let mut filled = 0;
-    for _ in 0..u64::MAX {
-        if filled >= bytes.len() {
-            return Ok(filled);
-        }
-        match file.read_at(&mut bytes[filled..], at.saturating_add(filled as u64)) {
-            Ok(0) => return Ok(filled),
-            Ok(n) => filled += n,
-            Err(e) => {
-                if e.kind() != ErrorKind::Interrupted {
-                    return Err(e);
-                }
-            }
-        }
-    }
-    Err(io::Error::from(ErrorKind::Interrupted))
-}
-
-// One open for appending, which makes the file where it is not there.
-fn append_file(rt: &impl Files, path: &str, bytes: &[u8]) -> io::Result<()> {
-    let mut file = OpenOptions::new().append(true).create(true).open(rt, path)?;
-    file.write_all(bytes)
-}
-
-// That the file is not there is no cause of an `Err`.
-fn remove_file(rt: &impl Files, path: &str) -> io::Result<()> {
-    for _ in 0..u64::MAX {
-        match fs::remove_file(rt, path) {
-            Ok(()) => return Ok(()),
-            Err(e) if is_absent(&e) => return Ok(()),
-            Err(e) if e.kind() == ErrorKind::Interrupted => {}
-            Err(e) => return Err(e),
-        }
-    }
-    Err(io::Error::from(ErrorKind::Interrupted))
 }

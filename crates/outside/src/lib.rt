@@ -5,6 +5,8 @@
 mod call_plan;
 mod call_record;
 mod dir_shelf;
+mod file_error;
+mod file_ops;
 mod gate;
 mod hold_gate;
 mod mem_shelf;
@@ -12,6 +14,8 @@ mod mem_sink;
 mod mem_source;
 mod object_map;
 mod one_fault;
+mod open_files;
+mod paths;
 mod read_source;
 mod record_shelf;
 mod shelf;
@@ -21,6 +25,7 @@ mod source;
 mod torn_shelf;
 mod trouble;
 mod write_sink;
+mod written_files;
 
 pub use dir_shelf::DirShelf;
 pub use gate::{Gate, OpenGate, PointKind};
@@ -38,6 +43,8 @@ pub use torn_shelf::TornShelf;
 pub use trouble::Trouble;
 pub use write_sink::WriteSink;
 
+#[cfg(test)]
+mod test_folder;
 #[cfg(test)]
 mod test_gates;
 #[cfg(test)]

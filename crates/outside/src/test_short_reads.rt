@@ -1,6 +1,6 @@
 // A file is read on where a read gives less than was asked for, or was interrupted.
 
-use crate::dir_shelf::fill_from;
+use crate::file_ops::fill_from;
 use std::io;
 use std::io::ErrorKind;
 use std::os::unix::fs::FileExt;

@@ -2,7 +2,7 @@ use Rattle.std.proofs.Common.{rules, tests, ◌∙◌, nat_eq, codes}
 use Rattle.std.specs.Cmp.Lexicographic.{pointwise}
 use Rattle.std.proofs.lemmas.Iterator.Splits.{YieldsList-from_slice_split}
 use Rattle.std.proofs.lemmas.Iterator.Search.{any_from_yields_List}
-use Rattle.outside.proofs.dir_shelf.leads_out.Goals as goal
+use Rattle.outside.proofs.paths.leads_out.Goals as goal
 
 pub returns : goal.returns
 returns c =

@@ -1,5 +1,5 @@
 use Rattle.std.proofs.Common.{◌≤◌, length}
-use Rattle.outside.proofs.dir_shelf.fill_from.Given as goal
+use Rattle.outside.proofs.file_ops.fill_from.Given as goal
 
 -- no more came than there is room for
 abbrev pub invariant-loop : goal.invariant-loop
