@@ -1,17 +1,17 @@
 -- What each session was closed with, one entry later.
-use Rattle.std.proofs.Common.{◌≡◌, ℕ, zero, suc, ◌+◌, ◌<◌, ◌≤◌, Bool, true, false, ◌||◌, eqb, List, [], ◌∷◌, ◌++◌, length, map, slice_get, slice_set, Option, Some, None, is_some, refl, sym, ap, ◌∙◌, subst, inl, inr, arith, eqb-true}
-use Rattle.std.specs.List.{count_by, list_any, find, range_with_len}
+use Rattle.std.proofs.Common.{◌≡◌, ℕ, zero, suc, ◌+◌, ◌<◌, ◌≤◌, Bool, true, false, eqb, List, [], ◌∷◌, ◌++◌, map, slice_get, slice_set, Option, Some, None, is_some, refl, sym, ap, ◌∙◌, subst, inl, inr, arith, eqb-true}
+use Rattle.std.specs.List.{list_any, find, range_with_len}
 use Rattle.std.specs.Option.{option_and_then}
-use Rattle.std.proofs.lemmas.Bool.{false≢true, both_ways, or_cases, or_parts, false_from_ne_true, cases_Bool, eq-eqb}
+use Rattle.std.proofs.lemmas.Bool.{false≢true, both_ways, or_cases, or_parts, false_from_ne_true}
 use Rattle.ss_base.specs.declared.ended.Ended.{Ended}
 use Rattle.journal_entry.specs.declared.entry.Entry.{Entry}
 use Rattle.journal_entry.specs.declared.entry.Point.{Point}
-use Rattle.journal_entry.specs.declared.entry.Point.TheVariants.{Finish, Abort}
+use Rattle.journal_entry.specs.declared.entry.Point.TheVariants.{Finish}
 use Rattle.history.specs.declared.rules.Rules.{Rules}
 use Rattle.history.specs.Sessions.{session_begun, session_count, begins_some, begins, commits, finishes, aborts, closes, has, newest, commits_of}
 use Rattle.history.specs.Need.{ended_by, ended, all_ended}
 use Rattle.history.specs.Legal.{is_legal}
-use Rattle.ss_base.proofs.MemberLaws.{In, find_in, count_other, count_one}
+use Rattle.ss_base.proofs.MemberLaws.{find_in, count_other, count_one}
 use Rattle.history_laws.proofs.Allowed.{step, closes_open}
 use Rattle.history_laws.proofs.SessionLaws.{has_none, has_older, has_cases, has_from, unfinished_is, begun_below}
 
@@ -108,6 +108,7 @@ map_set f g v zero a (suc n) here others =
   where
     apart : (t m : ℕ) → m < t → eqb t m ≡ false
     apart t m above = false_from_ne_true _ (λ same. let is = eqb-true t m same in absurd (omega (arith, above, is)))
+
     map_above : {X : Type 0} (f g : ℕ → X) (a n : ℕ) → ((t : ℕ) → a ≤ t → g t ≡ f t) → map g (range_with_len a n) ≡ map f (range_with_len a n)
     map_above f g a zero same = refl
     map_above f g a (suc n) same = λ i. same a (omega arith) i ∷ map_above f g (a + 1) n (λ t above. same t (omega (arith, above))) i

@@ -1,26 +1,24 @@
 -- How often a manifest is held, one entry later: a law for each kind of entry.
-use Rattle.std.proofs.Common.{◌≡◌, ℕ, ◌+◌, ◌<◌, ◌≤◌, Bool, true, false, ◌&&◌, ◌||◌, not, eqb, cond, List, [], ◌∷◌, Option, Some, None, refl, sym, ap, ◌∙◌, subst, inl, inr, arith, eqb-true}
-use Rattle.std.specs.Option.{option_map_or, option_and_then, unwrap_or, is_some}
-use Rattle.std.proofs.lemmas.Bool.{false≢true, both_ways, and_parts, or_left, or_right, or_parts, false_from_ne_true, cases_Bool, eq-eqb, not-true}
+use Rattle.std.proofs.Common.{◌≡◌, ℕ, ◌+◌, Bool, true, false, ◌&&◌, ◌||◌, not, eqb, cond, List, [], ◌∷◌, Option, Some, None, refl, sym, ap, ◌∙◌, subst, inl, inr, arith, eqb-true}
+use Rattle.std.specs.Option.{unwrap_or, is_some}
+use Rattle.std.proofs.lemmas.Bool.{false≢true, both_ways, and_parts, or_left, or_right, false_from_ne_true, cases_Bool, eq-eqb, not-true}
 use Rattle.ss_base.specs.declared.ids.ContainerId.{ContainerId}
 use Rattle.ss_base.specs.declared.ids.ManifestId.{ManifestId}
 use Rattle.ss_base.specs.declared.name.Name.{Name}
-use Rattle.ss_base.specs.declared.object.Object.{Object}
 use Rattle.ss_base.specs.Ids.{has_manifest, same_manifest}
 use Rattle.journal_entry.specs.declared.entry.Entry.{Entry}
 use Rattle.journal_entry.specs.declared.entry.Seen.{Seen}
-use Rattle.journal_entry.specs.declared.entry.Totals.{Totals}
 use Rattle.journal_entry.specs.declared.entry.Point.{Point}
-use Rattle.journal_entry.specs.declared.entry.Point.TheVariants.{Begin, Choose, Commit, Finish, Abort, Delete, Look, Done, Reclaim, Stat}
+use Rattle.journal_entry.specs.declared.entry.Point.TheVariants.{Begin, Choose, Commit, Finish, Abort, Delete, Look, Done}
 use Rattle.history.specs.declared.rules.Rules.{Rules}
 use Rattle.history.specs.Sessions.{is_number, session_begun, session_count, begins, chooses, commits, finishes, aborts, closes, deletes, settles, has, is_unfinished, is_retained, champions_chosen, is_pending, pending, pending_champions, sessions, readings, is_reading, reading_begun, ends}
-use Rattle.history.specs.Need.{commits_manifest, is_being_read}
-use Rattle.history.specs.Legal.{is_allowed, is_open_to, is_legal}
+use Rattle.history.specs.Need.{commits_manifest}
+use Rattle.history.specs.Legal.{is_allowed, is_legal}
 use Rattle.history_laws.specs.Recount.{pins, holds}
 use Rattle.pins_counts.specs.Counts.{one_if}
 use Rattle.history_counts.specs.CountsOf.{held}
-use Rattle.history_laws.proofs.Allowed.{step, choose_says, commit_says, delete_says, retained_is, begins_next, finishes_open, aborts_open, deletes_retained}
-use Rattle.history_laws.proofs.SessionLaws.{has_same, has_now, has_not, has_none, has_older, has_cases, has_parts, unfinished_is, unfinished_undeleted, closed_not_unfinished, retained_parts, retained_from, finished_closed, committed_begun, committed_below, begun_below}
+use Rattle.history_laws.proofs.Allowed.{step, choose_says, commit_says, begins_next, finishes_open, aborts_open, deletes_retained}
+use Rattle.history_laws.proofs.SessionLaws.{has_same, has_now, has_not, has_older, unfinished_is, unfinished_undeleted, closed_not_unfinished, retained_parts, retained_from, finished_closed, committed_begun, begun_below}
 use Rattle.history_laws.proofs.NeedLaws.{pending_one, sight_retained}
 use Rattle.history_laws.proofs.OnceLaws.{never_twice}
 use Rattle.ss_base.proofs.MemberLaws.{In, filter_map_in, in_filter_map}
@@ -28,7 +26,7 @@ use Rattle.ss_base.proofs.IdLaws.{same_manifest-self}
 use Rattle.history_counts.proofs.CountLaws.{count_alike, count_never}
 use Rattle.history_laws.proofs.LiveLaws.{pending_committed}
 use Rattle.history_counts.proofs.SessionHolds.{choices, choices_same, choices_exchanged, choices_begun}
-use Rattle.history_counts.proofs.ReadingHolds.{sights, sights_same, sights_begun, sights_ended, IsReadingOf, found_reading}
+use Rattle.history_counts.proofs.ReadingHolds.{sights, sights_same, sights_begun, sights_ended, IsReadingOf}
 
 -- whether a session's stream is being written or is retained
 unfoldable pub is_kept : ℕ → List Entry → Bool
@@ -253,11 +251,11 @@ unkept s past unfinished retained = λ i. unfinished i || retained i
 unretained : (s : ℕ) (past : List Entry) → has (finishes s) past ≡ false → is_retained s past ≡ false
 unretained s past unfinished = false_from_ne_true _ (λ retained. both_ways _ unfinished (retained_parts s past retained).0)
 
-kept_open : (s : ℕ) (past : List Entry) → is_unfinished s past ≡ true → is_kept s past ≡ true
+pub kept_open : (s : ℕ) (past : List Entry) → is_unfinished s past ≡ true → is_kept s past ≡ true
 unfolding is_kept
 kept_open s past open_now = or_left (is_unfinished s past) (is_retained s past) open_now
 
-kept_retained : (s : ℕ) (past : List Entry) → is_retained s past ≡ true → is_kept s past ≡ true
+pub kept_retained : (s : ℕ) (past : List Entry) → is_retained s past ≡ true → is_kept s past ≡ true
 unfolding is_kept
 kept_retained s past retained = or_right (is_unfinished s past) (is_retained s past) retained
 

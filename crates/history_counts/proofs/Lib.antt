@@ -7,3 +7,7 @@ pub mod EndedLaws
 pub mod UsesLaws
 pub mod StepLaws
 pub mod RoomLaws
+pub mod AfterLaws
+pub mod KindLaws
+pub mod CommitLaws
+pub mod EmptyLaws

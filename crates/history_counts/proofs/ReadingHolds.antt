@@ -1,8 +1,8 @@
 -- By how many unfinished readings a session's stream is read, one entry later.
-use Rattle.std.proofs.Common.{◌≡◌, ℕ, ◌+◌, ◌<◌, ◌≤◌, Bool, true, false, ◌&&◌, not, eqb, List, [], ◌∷◌, Option, Some, None, refl, sym, ap, ◌∙◌, subst, inl, inr, arith, eqb-true}
-use Rattle.std.specs.List.{count_by, filter_map, find, list_any}
-use Rattle.std.specs.Option.{option_map_or, option_map, option_and_then, is_some}
-use Rattle.std.proofs.lemmas.Bool.{false≢true, both_ways, and_parts, and_from, false_from_ne_true, cases_Bool, eq-eqb, not_from_false}
+use Rattle.std.proofs.Common.{◌≡◌, ℕ, ◌+◌, ◌≤◌, Bool, true, false, ◌&&◌, not, eqb, List, [], ◌∷◌, Option, Some, None, refl, sym, ap, ◌∙◌, subst, inl, inr, arith, eqb-true}
+use Rattle.std.specs.List.{count_by, find, list_any}
+use Rattle.std.specs.Option.{option_map_or, option_map, option_and_then}
+use Rattle.std.proofs.lemmas.Bool.{false≢true, both_ways, and_parts, false_from_ne_true, cases_Bool, eq-eqb}
 use Rattle.journal_entry.specs.declared.entry.Entry.{Entry}
 use Rattle.journal_entry.specs.declared.entry.Seen.{Seen}
 use Rattle.journal_entry.specs.declared.entry.Point.{Point}
@@ -12,7 +12,7 @@ use Rattle.history.specs.Sessions.{is_number, reading_begun, readings, reading_c
 use Rattle.history.specs.Legal.{is_allowed, is_legal}
 use Rattle.history_laws.specs.EntryNumbers.{reading}
 use Rattle.pins_counts.specs.Counts.{one_if}
-use Rattle.ss_base.proofs.MemberLaws.{In, any_in, find_in, filter_map_in, in_filter_map}
+use Rattle.ss_base.proofs.MemberLaws.{In, find_in, filter_map_in, in_filter_map}
 use Rattle.history_laws.proofs.Allowed.{step}
 use Rattle.history_laws.proofs.SessionLaws.{has_none, has_same, has_now, has_older, has_cases, has_from, has_not}
 use Rattle.history_laws.proofs.BegunLaws.{looked_once, looks_next, looked_below}
@@ -59,7 +59,7 @@ listed_looked seen past h =
     let from = filter_map_in (λ (entry : Entry). reading_begun entry.point) seen past h in
     has_from (looks seen.reader) from.0 past from.1 (looks_seen seen.reader seen from.0.point from.2 ∙ eq-eqb seen.reader seen.reader refl)
 
-ends_reading : (rules : Rules) (past : List Entry) (author r : ℕ) (point : Point) → is_allowed rules past author point ≡ true → ends r point ≡ true → is_reading r past ≡ true
+pub ends_reading : (rules : Rules) (past : List Entry) (author r : ℕ) (point : Point) → is_allowed rules past author point ≡ true → ends r point ≡ true → is_reading r past ≡ true
 unfolding is_allowed ends
 ends_reading rules past author r (Done t) allowed does = subst (λ n. is_reading n past ≡ true) (sym (eqb-true _ _ does)) (and_parts _ _ allowed).0
 ends_reading rules past author r _ allowed does = absurd (false≢true does)
@@ -141,12 +141,14 @@ unfolding newest has looks reading readings
 found_reading r past looked =
     let newest_one = find_some (λ (entry : Entry). looks r entry.point) past looked in
     let at = find_in (λ (entry : Entry). looks r entry.point) past newest_one.0 newest_one.1 in
-    let seen = seen_of r (reading_begun newest_one.0.point) at.1 in
-    (seen.0, record {
-      listed = in_filter_map (λ (entry : Entry). reading_begun entry.point) newest_one.0 seen.0 past at.0 seen.1;
-      same = seen.2;
-      is = ap (λ (o : Option Entry). option_and_then (λ (entry : Entry). reading_begun entry.point) o) newest_one.1 ∙ seen.1;
-    })
+    let seen = seen_of r (reading_begun newest_one.0.point) at.1 in (
+      seen.0,
+      record {
+        listed = in_filter_map (λ (entry : Entry). reading_begun entry.point) newest_one.0 seen.0 past at.0 seen.1;
+        same = seen.2;
+        is = ap (λ (o : Option Entry). option_and_then (λ (entry : Entry). reading_begun entry.point) o) newest_one.1 ∙ seen.1;
+      },
+    )
 
 ends_one : (r t : ℕ) (point : Point) → ends r point ≡ true → ends t point ≡ true → r ≡ t
 unfolding ends
@@ -198,6 +200,7 @@ sights_ended rules s r seen entry past legal ended of =
     and_none : (c : Bool) → (c && false) ≡ false
     and_none true = refl
     and_none false = refl
+
     and_all : (c : Bool) → (c && true) ≡ c
     and_all true = refl
     and_all false = refl

@@ -1,18 +1,16 @@
 -- How often a manifest is a champion of a pending choice, one entry later.
-use Rattle.std.proofs.Common.{◌≡◌, ℕ, ◌+◌, ◌≤◌, Bool, true, false, ◌&&◌, ◌||◌, eqb, cond, List, [], ◌∷◌, Option, Some, None, refl, sym, ap, ◌∙◌, subst, inl, inr, arith, eqb-true}
-use Rattle.std.specs.List.{count_by, filter_map}
+use Rattle.std.proofs.Common.{◌≡◌, ℕ, ◌+◌, true, false, ◌&&◌, eqb, List, [], ◌∷◌, Option, Some, None, refl, sym, ap, ◌∙◌, inl, inr, arith, eqb-true}
+use Rattle.std.specs.List.{count_by}
 use Rattle.std.specs.Option.{option_map_or, unwrap_or}
-use Rattle.std.proofs.lemmas.Bool.{false≢true, both_ways, false_from_ne_true, cases_Bool, eq-eqb}
+use Rattle.std.proofs.lemmas.Bool.{both_ways, false_from_ne_true, cases_Bool, eq-eqb}
 use Rattle.ss_base.specs.declared.ids.ManifestId.{ManifestId}
 use Rattle.ss_base.specs.Ids.{has_manifest}
 use Rattle.journal_entry.specs.declared.entry.Entry.{Entry}
-use Rattle.journal_entry.specs.declared.entry.Point.{Point}
 use Rattle.history.specs.declared.rules.Rules.{Rules}
 use Rattle.history.specs.Sessions.{is_number, session_begun, sessions, begins, settles, has, champions_chosen, pending_champions}
 use Rattle.history.specs.Legal.{is_legal}
 use Rattle.pins_counts.specs.Counts.{one_if}
-use Rattle.ss_base.proofs.MemberLaws.{In, any_in, in_any, count_none, filter_map_in}
-use Rattle.history_laws.proofs.SessionLaws.{has_none, has_from}
+use Rattle.ss_base.proofs.MemberLaws.{In, any_in}
 use Rattle.history_laws.proofs.BegunLaws.{begun_once}
 use Rattle.history_laws.proofs.NeedLaws.{pending_one, pending_same, pending_begun}
 use Rattle.history_counts.proofs.CountLaws.{balanced, count_and, count_alike, count_cons, count_results, at_least_one}

@@ -1,17 +1,15 @@
 -- What a step of the counts does to their agreement with a history.
-use Rattle.std.proofs.Common.{◌≡◌, ◌⊎◌, ℕ, ◌+◌, ◌-◌, ◌<◌, ◌≤◌, ◌^◌, Bool, true, false, ◌&&◌, ◌||◌, not, eqb, ltb, cond, List, [], ◌∷◌, ◌++◌, length, take, reverse, get_or, slice_get, Option, Some, None, is_some, refl, sym, ap, ◌∙◌, subst, inl, inr, arith, eqb-true}
-use mathlib.Core.List.{map}
-use Rattle.std.specs.List.{count_by, list_any, All, IsDistinct}
+use Rattle.std.proofs.Common.{◌≡◌, ◌⊎◌, ℕ, ◌+◌, ◌<◌, ◌≤◌, Bool, true, false, ◌&&◌, ◌||◌, eqb, ltb, List, [], ◌∷◌, length, take, reverse, get_or, slice_get, Some, refl, sym, ap, ◌∙◌, subst, inl, inr, arith, eqb-true}
+use Rattle.std.specs.List.{count_by, IsDistinct}
 use Rattle.std.specs.Option.{option_map_or, option_and_then}
 use Rattle.std.specs.Ordering.{eq_by_cmp}
-use Rattle.std.proofs.lemmas.Bool.{false≢true, both_ways, and_parts, and_from, and_left, and_right, or_cases, or_left, or_right, or_parts, false_from_ne_true, cases_Bool, eq-eqb, ltb-true, lt-ltb}
+use Rattle.std.proofs.lemmas.Bool.{false≢true, both_ways, and_parts, and_from, or_cases, false_from_ne_true, cases_Bool, eq-eqb, ltb-true, lt-ltb}
 use Rattle.std.proofs.lemmas.Bool.Decides.{nat_tests}
-use Rattle.std.proofs.lemmas.List.{reverse-reverse, take_more}
+use Rattle.std.proofs.lemmas.List.{reverse-reverse}
 use Rattle.std.proofs.lemmas.List.Sums.{sum_by_more, sum_by_more_le}
 use Rattle.std.proofs.lemmas.Option.{slice_get-get_or}
 use Rattle.ss_base.specs.declared.ids.ContainerId.{ContainerId}
 use Rattle.ss_base.specs.declared.ids.ManifestId.{ManifestId}
-use Rattle.ss_base.specs.declared.name.Name.{Name}
 use Rattle.ss_base.specs.declared.object.Object.{Object}
 use Rattle.ss_base.specs.declared.object.Object.TheVariants.{Container, Manifest}
 use Rattle.ss_base.specs.Ids.{same_manifest, same_container, same_object, has_container, has_object}
@@ -22,18 +20,18 @@ use Rattle.journal_entry.specs.declared.entry.Point.TheVariants.{Commit}
 use Rattle.history.specs.declared.rules.Rules.{Rules}
 use Rattle.history.specs.Sessions.{has}
 use Rattle.history.specs.Need.{commits_manifest}
-use Rattle.history.specs.Legal.{is_allowed, lists_use, are_uses, is_use, is_legal}
+use Rattle.history.specs.Legal.{is_allowed, lists_use, are_uses, is_legal}
 use Rattle.history_laws.specs.EntryNumbers.{entry_at, manifest_of, uses_listed, committed_at}
-use Rattle.pins_counts.specs.Counts.{Counted, number, use_number, hold_number, is_ready, is_gone, one_if, containers}
+use Rattle.pins_counts.specs.Counts.{Counted, use_number, hold_number, is_ready, one_if, containers}
 use Rattle.history_counts.specs.CountsOf.{lists_object}
 use Rattle.history_counts.specs.InStep.{IsHistory, uses_held, Agrees, commits_at, times, HasHolds, gives_up}
-use Rattle.ss_base.proofs.MemberLaws.{In, any_in, in_any, reverse_in}
+use Rattle.ss_base.proofs.MemberLaws.{In, in_any, reverse_in}
 use Rattle.ss_base.proofs.ApartLaws.{Apart, apart_map, IsDistinct-from_apart}
 use Rattle.ss_base.proofs.GetLaws.{get_in}
-use Rattle.ss_base.proofs.IdLaws.{same_manifest-self, same_manifest-true, same_container-self, same_container-true}
+use Rattle.ss_base.proofs.IdLaws.{same_manifest-self, same_manifest-true, same_container-self}
 use Rattle.ss_base.proofs.OrderLaws.{tied-same_object}
 use Rattle.history_laws.proofs.Allowed.{step, commit_says}
-use Rattle.history_laws.proofs.SessionLaws.{has_from, has_none, has_cases, has_now}
+use Rattle.history_laws.proofs.SessionLaws.{has_from}
 use Rattle.history_laws.proofs.OnceLaws.{never_twice}
 use Rattle.history_counts.proofs.CountLaws.{balanced, count_alike, count_cons, at_least_one, count_never}
 use Rattle.history_counts.proofs.UsesLaws.{agrees_still}
@@ -299,9 +297,11 @@ released_by rules counted new entry past (Commit m content text chunks bytes fre
     all_of : (b : Bool) → (b && true) ≡ b
     all_of true = refl
     all_of false = refl
+
     none_of : (b : Bool) → (b && false) ≡ false
     none_of true = refl
     none_of false = refl
+
     least : (n : ℕ) → ltb 0 n ≡ false → n ≡ 0
     least n none = grind (arith, nat_tests)
 released_by rules counted new entry past _ is legal h agrees holds given = agrees_still counted new past agrees

@@ -1,8 +1,8 @@
 -- How often entries with some numbers commit a manifest.
-use Rattle.std.proofs.Common.{◌≡◌, ℕ, ◌+◌, ◌<◌, ◌≤◌, Bool, true, false, ◌&&◌, ◌||◌, eqb, List, [], ◌∷◌, ◌++◌, length, map, Option, Some, None, refl, sym, ap, ◌∙◌, subst, inl, inr, arith, eqb-true}
+use Rattle.std.proofs.Common.{◌≡◌, ℕ, ◌+◌, Bool, true, false, ◌&&◌, ◌||◌, eqb, List, [], ◌∷◌, length, map, Some, refl, sym, ap, ◌∙◌, subst, inl, inr, arith}
 use Rattle.std.specs.List.{count_by, list_any}
-use Rattle.std.specs.Option.{option_map_or, option_and_then, unwrap_or}
-use Rattle.std.proofs.lemmas.Bool.{false≢true, both_ways, and_parts, false_from_ne_true, cases_Bool, eq-eqb}
+use Rattle.std.specs.Option.{option_map_or, unwrap_or}
+use Rattle.std.proofs.lemmas.Bool.{false≢true, both_ways, false_from_ne_true, cases_Bool}
 use Rattle.std.proofs.lemmas.List.Sums.{sum_by-append}
 use Rattle.ss_base.specs.declared.ids.ManifestId.{ManifestId}
 use Rattle.ss_base.specs.Ids.{same_manifest, has_manifest}
@@ -16,15 +16,15 @@ use Rattle.history.specs.Legal.{is_allowed, is_legal}
 use Rattle.history_laws.specs.EntryNumbers.{numbers_of, entry_at, manifest_of, committed_at, CommitThese}
 use Rattle.pins_counts.specs.Counts.{one_if}
 use Rattle.history_counts.specs.InStep.{commits_at, times}
-use Rattle.ss_base.proofs.MemberLaws.{In, in_any, any_in}
+use Rattle.ss_base.proofs.MemberLaws.{any_in}
 use Rattle.ss_base.proofs.ApartLaws.{Apart}
-use Rattle.ss_base.proofs.IdLaws.{same_manifest-self, same_manifest-true}
+use Rattle.ss_base.proofs.IdLaws.{same_manifest-true}
 use Rattle.history_laws.proofs.Allowed.{step}
 use Rattle.history_laws.proofs.SessionLaws.{has_none, has_same, has_now}
 use Rattle.history_laws.proofs.NeedLaws.{pending_one, pending_same, pending_none}
 use Rattle.history_laws.proofs.OnceLaws.{chosen_apart, never_twice}
-use Rattle.history_laws.proofs.NumberLaws.{DoesAt, entry_kept, numbers_more, numbers_same, numbers_first, numbers_do, committed_last}
-use Rattle.history_counts.proofs.CountLaws.{count_cons, count_alike, count_never}
+use Rattle.history_laws.proofs.NumberLaws.{entry_kept, numbers_more, numbers_same, numbers_first, numbers_do, committed_last}
+use Rattle.history_counts.proofs.CountLaws.{count_cons, count_alike}
 
 -- the entry with a number commits what it commits, also when there is one entry more
 at_kept : (id : ManifestId) (n : ℕ) (entry older : Entry) (past : List Entry) → entry_at n past ≡ Some older → commits_at id (entry ∷ past) n ≡ commits_at id past n
@@ -138,6 +138,7 @@ times_stream rules id s (entry ∷ past) legal =
     and_true : (b : Bool) → (b && true) ≡ b
     and_true true = refl
     and_true false = refl
+
     and_false : (b : Bool) → (b && false) ≡ false
     and_false true = refl
     and_false false = refl

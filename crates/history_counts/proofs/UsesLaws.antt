@@ -1,40 +1,30 @@
 -- Uses of containers, by the holds of the manifests that list them.
-use Rattle.std.proofs.Common.{◌≡◌, ℕ, ◌+◌, ◌<◌, ◌≤◌, ◌^◌, Bool, true, false, ◌&&◌, ◌||◌, not, eqb, ltb, cond, List, [], ◌∷◌, length, Option, Some, None, refl, sym, ap, ◌∙◌, subst, inl, inr, arith, eqb-true}
-use mathlib.Core.List.{map}
-use Rattle.std.specs.List.{count_by, list_any, filter, All, IsDistinct}
-use Rattle.std.specs.Ordering.{eq_by_cmp}
-use Rattle.std.proofs.lemmas.Bool.{false≢true, both_ways, and_parts, and_from, and_left, and_right, or_cases, or_left, or_right, or_parts, false_from_ne_true, cases_Bool, eq-eqb, ltb-true, lt-ltb}
+use Rattle.std.proofs.Common.{◌≡◌, ℕ, Bool, true, false, ◌&&◌, ◌||◌, not, eqb, ltb, cond, List, [], ◌∷◌, None, refl, sym, ap, ◌∙◌, inl, inr, arith, eqb-true}
+use Rattle.std.specs.List.{count_by, filter}
+use Rattle.std.proofs.lemmas.Bool.{both_ways, false_from_ne_true, cases_Bool, eq-eqb, ltb-true}
 use Rattle.std.proofs.lemmas.Bool.Decides.{nat_tests}
 use Rattle.ss_base.specs.declared.ids.ContainerId.{ContainerId}
 use Rattle.ss_base.specs.declared.ids.ManifestId.{ManifestId}
-use Rattle.ss_base.specs.declared.name.Name.{Name}
 use Rattle.ss_base.specs.declared.object.Object.{Object}
 use Rattle.ss_base.specs.declared.object.Object.TheVariants.{Container, Manifest}
-use Rattle.ss_base.specs.Ids.{same_manifest, same_container, same_object, has_container, has_object}
-use Rattle.ss_base.specs.Order.{object_cmp, is_container_before, is_before_first, are_ascending}
+use Rattle.ss_base.specs.Ids.{has_container}
 use Rattle.ss_base.specs.KnownObjects.{known_objects}
 use Rattle.journal_entry.specs.declared.entry.Entry.{Entry}
 use Rattle.journal_entry.specs.declared.entry.Point.{Point}
 use Rattle.journal_entry.specs.declared.entry.Point.TheVariants.{Commit}
-use Rattle.history.specs.declared.rules.Rules.{Rules}
 use Rattle.history.specs.Sessions.{has, is_unfinished, is_retained, is_closed}
-use Rattle.history.specs.Need.{commits_manifest, is_live, uses_live, is_needed, known, all_ended, reclaims, is_wanted, is_erasable, erasable, is_pinned}
-use Rattle.history.specs.Legal.{is_allowed, lists_use, are_uses, is_legal}
+use Rattle.history.specs.Need.{commits_manifest, is_live, uses_live, is_needed, known, is_wanted, is_erasable, erasable, is_pinned}
 use Rattle.history_laws.specs.Recount.{holds, uses_of}
 use Rattle.history_laws.specs.EntryNumbers.{manifest_of, uses_listed}
-use Rattle.pins_counts.specs.Counts.{Counted, number, use_number, hold_number, is_ready, is_gone, is_idle, dead_objects, one_if, containers}
+use Rattle.pins_counts.specs.Counts.{Counted, use_number, hold_number, is_ready, is_idle, dead_objects, one_if}
 use Rattle.history_counts.specs.CountsOf.{held, lists_object, AreCountsOf}
 use Rattle.history_counts.specs.InStep.{uses_held, Agrees}
-use Rattle.ss_base.proofs.MemberLaws.{In, any_in, in_any, count_none}
-use Rattle.ss_base.proofs.ApartLaws.{Apart, apart_map, IsDistinct-from_apart}
-use Rattle.ss_base.proofs.IdLaws.{same_manifest-self, same_manifest-true, same_container-self, same_container-true}
-use Rattle.ss_base.proofs.OrderLaws.{tied-same_object}
-use Rattle.history_laws.proofs.Allowed.{step, commit_says}
-use Rattle.history_laws.proofs.SessionLaws.{has_from, has_none, has_cases, has_now, closed_not_unfinished}
-use Rattle.history_laws.proofs.OnceLaws.{never_twice}
+use Rattle.ss_base.proofs.MemberLaws.{In}
+use Rattle.ss_base.proofs.IdLaws.{same_manifest-self}
+use Rattle.history_laws.proofs.SessionLaws.{has_from, has_cases, closed_not_unfinished}
 use Rattle.history_laws.proofs.ObjectLaws.{IsOfClosed, known_closed}
 use Rattle.history_laws.proofs.RecountLaws.{live_held, needed_used}
-use Rattle.history_counts.proofs.CountLaws.{balanced, count_alike, count_cons, at_least_one, count_never}
+use Rattle.history_counts.proofs.CountLaws.{count_alike, count_cons}
 
 -- ---- the recount
 
@@ -120,7 +110,7 @@ pub agrees_still : (counted new : Counted) (past : List Entry) → Agrees counte
     → ((c : ContainerId) → use_number new c ≡ use_number counted c) → ((q : Object) → is_ready new q ≡ is_ready counted q) → Agrees new past
 agrees_still counted new past agrees same uses ready = record {
   uses_agree = λ c. uses c ∙ agrees.uses_agree c ∙ count_alike (λ (e : Entry). uses_held counted c e.point) (λ (e : Entry). uses_held new c e.point) past
-  (λ e h. sym (same_use counted new c e.point (λ id does. same id (has_from (commits_manifest id) e past h does))));
+      (λ e h. sym (same_use counted new c e.point (λ id does. same id (has_from (commits_manifest id) e past h does))));
   ready_are = λ q listed. ready q ∙ agrees.ready_are q listed;
 }
 
@@ -147,3 +137,9 @@ agrees_more counted entry past none agrees = record {
     | inr older ↦ agrees.ready_are q older
   ];
 }
+
+-- the uses of entries whose manifests have holds as before
+pub uses_older : (counted new : Counted) (past : List Entry) → ((id : ManifestId) → has (commits_manifest id) past ≡ true → ltb 0 (hold_number new id) ≡ ltb 0 (hold_number counted id)) → (c : ContainerId)
+    → count_by (λ (entry : Entry). uses_held new c entry.point) past ≡ count_by (λ (entry : Entry). uses_held counted c entry.point) past
+uses_older counted new past same c = count_alike (λ (e : Entry). uses_held new c e.point) (λ (e : Entry). uses_held counted c e.point) past
+    (λ e h. same_use counted new c e.point (λ id does. same id (has_from (commits_manifest id) e past h does)))

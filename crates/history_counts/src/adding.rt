@@ -28,11 +28,13 @@ pub fn add_entry(
     requires stream { stream.now ≡ commits_in (stream_of entry.now.point (reverse before.now)) (reverse before.now) }
     ensures { AreCountsOf counts.new (entry.now ∷ reverse before.now) }
 {
-    let _limits = rules.limits;
+    let _limit = rules.limits.entries;
     match &entry.point {
-        Point::Begin {
-            session: Some(_), ..
-        } => counts.add_session(),
+        Point::Begin { session, .. } => {
+            if session.is_some() {
+                counts.add_session();
+            }
+        }
         Point::Choose { .. } => pin_all(counts, before, champions),
         Point::Commit { manifest, uses, .. } => {
             release_all(counts, before, champions);
@@ -56,6 +58,6 @@ pub fn add_entry(
         Point::Look { .. } => pin_all(counts, before, stream),
         Point::Done { .. } => release_all(counts, before, stream),
         Point::Reclaim { objects } => counts.mark_all(objects.as_slice()),
-        Point::Begin { session: None, .. } | Point::Stat { .. } => {}
+        Point::Stat { .. } => {}
     }
 }

@@ -1,5 +1,7 @@
 // What the counts of a history tell.
-ghost use Rattle.std.specs.Prelude.{◌≡◌, List, true};
+ghost use Rattle.std.specs.Prelude.{◌≡◌, List, [], true};
+ghost use Rattle.std.specs.FinMap as map;
+ghost use Rattle.std.specs.FinSet as set;
 ghost use Rattle.journal_entry.specs.declared.entry.Entry.{Entry};
 ghost use Rattle.history.specs.declared.rules.Rules.{Rules};
 ghost use Rattle.history.specs.Need.{erasable};
@@ -11,4 +13,9 @@ ghost use Rattle.history_counts.specs.CountsOf.{AreCountsOf};
 pub fn dead_is_erasable()
     ensures { (rules : Rules) (counted : Counted) (past : List Entry) → is_legal rules past ≡ true
         → AreCountsOf counted past → dead_objects counted ≡ erasable past }
+{}
+
+/// Counts in which nothing is counted are those of the empty history.
+pub fn nothing_is_counted()
+    ensures { AreCountsOf (record { numbers = map.empty; sessions = []; gone = set.empty; room = 0 }) [] }
 {}

@@ -7,5 +7,5 @@ mod laws;
 mod room;
 
 pub use adding::add_entry;
-pub use laws::dead_is_erasable;
+pub use laws::{dead_is_erasable, nothing_is_counted};
 pub use room::make_room;

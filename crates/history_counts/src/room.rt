@@ -18,7 +18,8 @@ pub fn make_room(counts: &mut Counts, entry: &Entry) -> Result<(), Memory>
 {
     match &entry.point {
         Point::Begin {
-            session: Some(_), ..
+            session: Some(_),
+            ..
         } => counts.room_session(),
         Point::Commit { manifest, uses, .. } => counts.make_room(uses.as_slice(), *manifest),
         Point::Reclaim { objects } => make_objects_ready(counts, objects.as_slice()),

@@ -44,7 +44,7 @@ sight_reader : (seen : Seen) (reader : ℕ) (found : Option ℕ) → option_eq s
 sight_reader seen reader None e = absurd (false≢true e)
 sight_reader seen reader (Some s) e = eqb-true _ _ (and_parts _ _ e).0
 
-looks_next : (rules : Rules) (past : List Entry) (author r : ℕ) (point : Point) → is_allowed rules past author point ≡ true → looks r point ≡ true → r ≡ reading_count past
+pub looks_next : (rules : Rules) (past : List Entry) (author r : ℕ) (point : Point) → is_allowed rules past author point ≡ true → looks r point ≡ true → r ≡ reading_count past
 unfolding looks reading_begun is_allowed reply_to_look
 looks_next rules past author r (Look name None) allowed does = absurd (false≢true does)
 looks_next rules past author r (Look name (Some seen)) allowed does = eqb-true _ _ does ∙ sight_reader seen (reading_count past) (retained name past) allowed
@@ -59,7 +59,7 @@ unfolding looks looks_some
 looks_looks_some r point does = some_reader r (reading_begun point) does
 
 -- readings have the numbers below their count
-looked_below : (rules : Rules) (r : ℕ) (past : List Entry) → is_legal rules past ≡ true → has (looks r) past ≡ true → r < reading_count past
+pub looked_below : (rules : Rules) (r : ℕ) (past : List Entry) → is_legal rules past ≡ true → has (looks r) past ≡ true → r < reading_count past
 unfolding reading_count
 looked_below rules r [] legal looked = absurd (both_ways _ (has_none (looks r)) looked)
 looked_below rules r (entry ∷ past) legal looked =

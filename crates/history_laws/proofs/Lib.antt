@@ -7,12 +7,12 @@ pub mod OnceLaws
 pub mod CountLaws
 mod ListLaws
 pub mod NeedLaws
-mod LiveLaws
-mod BegunLaws
-mod EndLaws
+pub mod LiveLaws
+pub mod BegunLaws
+pub mod EndLaws
 pub mod ObjectLaws
 pub mod BoundLaws
 mod OwnEndLaws
-mod OtherLaws
-mod RecountLaws
+pub mod OtherLaws
+pub mod RecountLaws
 pub mod NumberLaws

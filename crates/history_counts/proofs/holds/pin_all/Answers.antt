@@ -1,5 +1,4 @@
-use Rattle.std.proofs.Common.{◌≡◌, ◌<◌, ◌+◌, ℕ, true, reverse, length, take, get_or, ap, arith, ◌∙◌}
-use Rattle.std.proofs.lemmas.Bool.{cases_Bool}
+use Rattle.std.proofs.Common.{◌<◌, ◌+◌, reverse, length, take, get_or, ap, arith}
 use Rattle.ss_base.specs.declared.ids.ManifestId.{ManifestId}
 use Rattle.history.specs.Need.{commits_manifest}
 use Rattle.pins_counts.specs.Counts.{one_if, hold_number}
@@ -38,7 +37,8 @@ loop-n-preserved c =
     let most = times_most id c.args.before.now c.args.numbers.now i e c.loop-n-test.true within c.index-before-n.is in
     let first = c.requires.held id (omega (arith, most, some)) in
     let so_far = c.loop-n.invariant.1.holds id in
-    omega (arith, first, so_far) in
-    (agrees_pinned more c.loop-n.counts c.pin_one.new.counts past c.loop-n.invariant.0 c.pin_one.ensures.holds c.pin_one.ensures.uses held,
-    holds_joined (times (take i c.args.numbers.now) past) more (times (take (i + 1) c.args.numbers.now) past) c.args.counts.now c.loop-n.counts c.pin_one.new.counts c.loop-n.invariant.1 c.pin_one.ensures.holds
-    (λ id. times_more id c.args.before.now c.args.numbers.now i e c.loop-n-test.true within c.index-before-n.is))
+    omega (arith, first, so_far) in (
+      agrees_pinned more c.loop-n.counts c.pin_one.new.counts past c.loop-n.invariant.0 c.pin_one.ensures.holds c.pin_one.ensures.uses held,
+      holds_joined (times (take i c.args.numbers.now) past) more (times (take (i + 1) c.args.numbers.now) past) c.args.counts.now c.loop-n.counts c.pin_one.new.counts c.loop-n.invariant.1 c.pin_one.ensures.holds
+          (λ id. times_more id c.args.before.now c.args.numbers.now i e c.loop-n-test.true within c.index-before-n.is),
+    )

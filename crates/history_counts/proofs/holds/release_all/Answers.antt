@@ -1,4 +1,4 @@
-use Rattle.std.proofs.Common.{◌≡◌, ◌<◌, ◌+◌, ℕ, true, reverse, length, take, get_or, ap, arith, ◌∙◌}
+use Rattle.std.proofs.Common.{◌≡◌, ◌<◌, ◌+◌, true, reverse, length, take, get_or, ap, arith}
 use Rattle.ss_base.specs.declared.ids.ManifestId.{ManifestId}
 use Rattle.history.specs.Need.{commits_manifest}
 use Rattle.pins_counts.specs.Counts.{one_if, hold_number}
@@ -50,7 +50,8 @@ loop-n-preserved c =
     let i = c.loop-n.n-index in
     let n = get_or c.args.numbers.now i 0 in
     let within : n < length c.args.before.now = c.requires.within i 0 c.loop-n-test.true in
-    let less = λ (id : ManifestId). one_if (commits_manifest id e.point) in
-    (agrees_released c.loop-n.counts c.release_one.new.counts e past c.requires.history (in_past c.args.before.now n e within c.index-before-n.is) c.loop-n.invariant.0 c.release_one.ensures.holds c.release_one.ensures.uses,
-    holds_joined less (times (take i c.args.numbers.now) past) (times (take (i + 1) c.args.numbers.now) past) c.release_one.new.counts c.loop-n.counts c.args.counts.now c.release_one.ensures.holds c.loop-n.invariant.1
-    (λ id. (let sum = times_more id c.args.before.now c.args.numbers.now i e c.loop-n-test.true within c.index-before-n.is in omega (arith, sum))))
+    let less = λ (id : ManifestId). one_if (commits_manifest id e.point) in (
+      agrees_released c.loop-n.counts c.release_one.new.counts e past c.requires.history (in_past c.args.before.now n e within c.index-before-n.is) c.loop-n.invariant.0 c.release_one.ensures.holds c.release_one.ensures.uses,
+      holds_joined less (times (take i c.args.numbers.now) past) (times (take (i + 1) c.args.numbers.now) past) c.release_one.new.counts c.loop-n.counts c.args.counts.now c.release_one.ensures.holds c.loop-n.invariant.1
+          (λ id. (let sum = times_more id c.args.before.now c.args.numbers.now i e c.loop-n-test.true within c.index-before-n.is in omega (arith, sum))),
+    )

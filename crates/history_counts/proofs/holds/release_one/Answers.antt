@@ -1,8 +1,8 @@
-use Rattle.std.proofs.Common.{◌≡◌, ◌<◌, ◌+◌, ℕ, Bool, true, false, eqb, ◌&&◌, get_or, length, List, refl, sym, ap, subst, arith, ◌∙◌}
+use Rattle.std.proofs.Common.{◌≡◌, ◌+◌, Bool, true, false, ◌&&◌, get_or, List, refl, sym, ap, subst, arith, ◌∙◌}
 use Rattle.std.proofs.lemmas.Bool.{eq-eqb}
 use Rattle.ss_base.specs.declared.ids.ContainerId.{ContainerId}
 use Rattle.ss_base.specs.declared.object.Object.TheVariants.{Container, Manifest}
-use Rattle.ss_base.specs.Ids.{has_container, has_object}
+use Rattle.ss_base.specs.Ids.{has_container}
 use Rattle.ss_base.specs.Order.{are_ascending}
 use Rattle.history.specs.Need.{commits_manifest}
 use Rattle.history_laws.specs.EntryNumbers.{uses_listed}

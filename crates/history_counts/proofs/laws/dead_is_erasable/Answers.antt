@@ -1,8 +1,4 @@
 use Rattle.history_counts.proofs.UsesLaws.{dead_erasable}
-use Rattle.history_counts.proofs.HeldLaws.{held_new}
-use Rattle.history_counts.proofs.StepLaws.{agrees_dropped}
-use Rattle.history_counts.proofs.TimesLaws.{times_stream}
-use Rattle.history_counts.proofs.EndedLaws.{open_at}
 use Rattle.history_counts.proofs.laws.dead_is_erasable.Goals as goal
 
 pub returns : goal.returns
