@@ -76,15 +76,15 @@ session_fewer s entry past none ended open_before =
 
 -- ---- readings
 
-reading_parts : (r : ℕ) (past : List Entry) → is_reading r past ≡ true → (has (looks r) past ≡ true) × (has (ends r) past ≡ false)
+pub reading_parts : (r : ℕ) (past : List Entry) → is_reading r past ≡ true → (has (looks r) past ≡ true) × (has (ends r) past ≡ false)
 unfolding is_reading
 reading_parts r past open_now = let parts = and_parts (has (looks r) past) _ open_now in (parts.0, not-true (has (ends r) past) parts.1)
 
-reading_from : (r : ℕ) (past : List Entry) → has (looks r) past ≡ true → has (ends r) past ≡ false → is_reading r past ≡ true
+pub reading_from : (r : ℕ) (past : List Entry) → has (looks r) past ≡ true → has (ends r) past ≡ false → is_reading r past ≡ true
 unfolding is_reading
 reading_from r past looked open_still = and_from (has (looks r) past) _ looked (not_from_false _ open_still)
 
-ended_not_reading : (r : ℕ) (past : List Entry) → has (ends r) past ≡ true → is_reading r past ≡ false
+pub ended_not_reading : (r : ℕ) (past : List Entry) → has (ends r) past ≡ true → is_reading r past ≡ false
 unfolding is_reading
 ended_not_reading r past ended = and_right _ _ (not_from_true _ ended)
 

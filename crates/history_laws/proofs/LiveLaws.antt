@@ -18,7 +18,7 @@ somewhere_committed rules id past legal at =
     subst (λ (m : ManifestId). has (commits_manifest m) past ≡ true) (sym at.same)
     (stands_committed at.stands past (what_stands rules at.bound at.hook past legal at.stands at.listed))
 
-pending_committed : (rules : Rules) (t : ℕ) (id : ManifestId) (past : List Entry) → is_legal rules past ≡ true → has_manifest id (pending_champions t past) ≡ true → has (commits_manifest id) past ≡ true
+pub pending_committed : (rules : Rules) (t : ℕ) (id : ManifestId) (past : List Entry) → is_legal rules past ≡ true → has_manifest id (pending_champions t past) ≡ true → has (commits_manifest id) past ≡ true
 pending_committed rules t id [] legal h = absurd (rw (pending_none t) at (listed_manifest id (pending_champions t []) h))
 pending_committed rules t id (entry ∷ past) legal h =
     let now = step rules entry past legal in

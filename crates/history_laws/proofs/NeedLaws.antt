@@ -41,7 +41,7 @@ listed_manifest id ids h =
     let found = any_in (same_manifest id) ids h in
     subst (λ (m : ManifestId). In m ids) (sym (same_manifest-true _ _ found.2)) found.1
 
-manifest_listed : (id : ManifestId) (ids : List ManifestId) → In id ids → has_manifest id ids ≡ true
+pub manifest_listed : (id : ManifestId) (ids : List ManifestId) → In id ids → has_manifest id ids ≡ true
 unfolding has_manifest
 manifest_listed id ids h = in_any (same_manifest id) id ids h (same_manifest-self id)
 
@@ -91,7 +91,7 @@ settled_begun rules past author t id (Choose s hooks champions) allowed does h =
 ]
 settled_begun rules past author t id _ allowed does h = absurd (false≢true h)
 
-pending_begun : (rules : Rules) (t : ℕ) (id : ManifestId) (past : List Entry) → is_legal rules past ≡ true → has_manifest id (pending_champions t past) ≡ true → has (begins t) past ≡ true
+pub pending_begun : (rules : Rules) (t : ℕ) (id : ManifestId) (past : List Entry) → is_legal rules past ≡ true → has_manifest id (pending_champions t past) ≡ true → has (begins t) past ≡ true
 pending_begun rules t id [] legal h = absurd (rw (pending_none t) at (listed_manifest id (pending_champions t []) h))
 pending_begun rules t id (entry ∷ past) legal h =
     let now = step rules entry past legal in
@@ -100,7 +100,7 @@ pending_begun rules t id (entry ∷ past) legal h =
       | inr other ↦ pending_begun rules t id past now.legal (subst (λ (ids : List ManifestId). has_manifest id ids ≡ true) (pending_same t entry past other) h)
     ])
 
-number_is : (n : ℕ) (o : Option ℕ) → is_number n o ≡ true → o ≡ Some n
+pub number_is : (n : ℕ) (o : Option ℕ) → is_number n o ≡ true → o ≡ Some n
 number_is n None e = absurd (false≢true e)
 number_is n (Some m) e = ap Some (sym (eqb-true _ _ e))
 
@@ -128,7 +128,7 @@ champion_before rules id entry past now h =
 
 -- ---- streams that are read
 
-sight_retained : (rules : Rules) (past : List Entry) (author : ℕ) (seen : Seen) (point : Point) → is_allowed rules past author point ≡ true → reading_begun point ≡ Some seen → is_retained seen.session past ≡ true
+pub sight_retained : (rules : Rules) (past : List Entry) (author : ℕ) (seen : Seen) (point : Point) → is_allowed rules past author point ≡ true → reading_begun point ≡ Some seen → is_retained seen.session past ≡ true
 unfolding reading_begun
 sight_retained rules past author seen (Look name None) allowed e = absurd (cc)
 sight_retained rules past author seen (Look name (Some other)) allowed e =
@@ -191,7 +191,7 @@ unfolding is_pinned
 read_pinned id past read = or_right (is_champion id past) (is_being_read id.session past) read
 
 -- what stands at a hook and is closed is retained
-stands_retained : (rules : Rules) (id : ManifestId) (past : List Entry) → is_legal rules past ≡ true → has (closes id.session) past ≡ true → StandsSomewhere id past → is_retained id.session past ≡ true
+pub stands_retained : (rules : Rules) (id : ManifestId) (past : List Entry) → is_legal rules past ≡ true → has (closes id.session) past ≡ true → StandsSomewhere id past → is_retained id.session past ≡ true
 stands_retained rules id past legal closed at =
     let may = what_stands rules at.bound at.hook past legal at.stands at.listed in
     let unaborted = subst (λ (m : ManifestId). has (aborts m.session) past ≡ false) (sym at.same) may.unaborted in

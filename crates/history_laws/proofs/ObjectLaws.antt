@@ -82,7 +82,7 @@ of_closed object_at is_of count object past n h =
     let closed = closed_if_known count at.0 past (newest (closes at.0) past) one.0 refl one.1 in
     subst (IsOfClosed past) one.2 (subst (λ s. is_closed s past ≡ true) (sym (is_of at.0 one.0)) closed)
 
-known_closed : (object : Object) (past : List Entry) → In object (known past) → IsOfClosed past object
+pub known_closed : (object : Object) (past : List Entry) → In object (known past) → IsOfClosed past object
 known_closed object past h = elim (append_in object (containers_known past) (manifests_known past) (subst (λ xs. In object xs) (known_parts past) h)) [
   | inl container ↦ of_closed container_at (λ s n. refl) (λ (e : Ended). e.containers) object past (session_count past) container
   | inr manifest ↦ of_closed manifest_at (λ s n. refl) (λ (e : Ended). e.texts) object past (session_count past) manifest

@@ -98,7 +98,7 @@ commit_cases id k entry past c = elim (reverse_cases c.entry entry past k c.ther
 ]
 
 -- no entry commits what is committed
-never_twice : (rules : Rules) (id : ManifestId) (entry : Entry) (past : List Entry) → IsStep rules entry past → commits_manifest id entry.point ≡ true → has (commits_manifest id) past ≡ true → ⊥
+pub never_twice : (rules : Rules) (id : ManifestId) (entry : Entry) (past : List Entry) → IsStep rules entry past → commits_manifest id entry.point ≡ true → has (commits_manifest id) past ≡ true → ⊥
 never_twice rules id entry past now here committed =
     let next : id.seq ≡ commits_of id.session past = (commits_next rules past entry.author id entry.point now.allowed here).1 in
     let below : id.seq < commits_of id.session past = committed_below rules id past now.legal committed in

@@ -187,8 +187,8 @@ impl Counts {
         Ok(())
     }
 
-    // Makes room for the object's number.
-    fn make_ready(&mut self, object: Object) -> Result<(), Memory>
+    /// Makes room for the object's number. After want of memory nothing has changed.
+    pub fn make_ready(&mut self, object: Object) -> Result<(), Memory>
         ensures ready { OnOk result ((q : Stored) → is_ready self.new q ≡ (same_object q object || is_ready self.old q)) }
         ensures numbers { (q : Stored) → number self.new q ≡ number self.old q }
         ensures err { OnErr result (self.new ≡ self.old) }
@@ -236,8 +236,8 @@ impl Counts {
         );
     }
 
-    // Adds these objects, whose numbers have room, to those that are gone.
-    fn mark_all(&mut self, objects: &[Object])
+    /// Adds these objects, whose numbers have room, to those that are gone.
+    pub fn mark_all(&mut self, objects: &[Object])
         requires { All (λ object. IsTrue (is_ready self.old object)) objects.now }
         ensures gone { (q : Stored) → is_gone self.new q ≡ (is_gone self.old q || has_object q objects.now) }
         ensures rest { self.new ≡ record self.old { gone = self.new.gone } }

@@ -1,0 +1,13 @@
+pub mod CountLaws
+pub mod SessionHolds
+pub mod ReadingHolds
+pub mod HeldLaws
+pub mod TimesLaws
+pub mod EndedLaws
+pub mod UsesLaws
+pub mod StepLaws
+pub mod RoomLaws
+pub mod AfterLaws
+pub mod KindLaws
+pub mod CommitLaws
+pub mod EmptyLaws
