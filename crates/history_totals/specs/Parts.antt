@@ -38,6 +38,6 @@ bytes_committed _ = 0
 unfoldable pub bytes_at : List Entry → ℕ → ℕ
 bytes_at entries n = option_map_or (λ (entry : Entry). bytes_committed entry.point) (slice_get entries n) 0
 
--- Each entry starts fewer than 2^32 containers, as its type keeps it.
+-- room for the containers of one entry more: each starts fewer than 2^32, as its type keeps it (this project's own)
 abbrev pub HasRoom : Totals → Type 0
 HasRoom sums = sums.containers ≤ sums.entries * 2 ^ 32

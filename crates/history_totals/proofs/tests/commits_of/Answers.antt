@@ -1,8 +1,7 @@
-use Rattle.std.proofs.Common.{◌≡◌, ◌<◌, ◌+◌, List, [], ◌∷◌, ◌++◌, length, reverse, take, get_or, sym, ap, ◌∙◌, arith}
+use Rattle.std.proofs.Common.{◌≡◌, ◌<◌, ◌+◌, [], ◌∷◌, ◌++◌, length, reverse, take, get_or, sym, ap, ◌∙◌, arith}
 use Rattle.std.proofs.lemmas.List.{take_more, reverse-append, length-reverse, length-take-le}
 use Rattle.journal_entry.specs.declared.entry.Entry.{Entry}
 use Rattle.history.specs.Sessions.{commits}
-use Rattle.history_laws.specs.EntryNumbers.{numbers_of}
 use Rattle.history_laws.proofs.NumberLaws.{numbers_first, numbers_more, numbers_same}
 use Rattle.history_totals.proofs.tests.commits_of.Goals as goal
 use Rattle.history_totals.proofs.tests.commits_of.Goals.{then-is_commit_of+in_ok-push, else-is_commit_of}
