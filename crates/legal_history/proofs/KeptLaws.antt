@@ -1,5 +1,5 @@
 -- What a legal history keeps, at first and after one entry more.
-use Rattle.std.proofs.Common.{◌≡◌, ℕ, ◌+◌, ◌-◌, ◌^◌, ◌<◌, ◌≤◌, Bool, true, false, ◌&&◌, leb, List, [], ◌∷◌, ◌++◌, length, reverse, Option, Some, None, vec_len, vec_capacity, refl, sym, ap, ◌∙◌, subst, inl, inr, arith}
+use Rattle.std.proofs.Common.{◌≡◌, ℕ, ◌+◌, ◌^◌, ◌<◌, ◌≤◌, Bool, true, leb, List, [], ◌∷◌, ◌++◌, length, reverse, Some, None, vec_len, vec_capacity, refl, sym, ap, ◌∙◌, subst, inl, inr, arith}
 use Rattle.std.specs.List.{count_by}
 use Rattle.std.proofs.lemmas.Bool.{false≢true, and_parts, and_from, cases_Bool, leb-true}
 use Rattle.std.proofs.lemmas.List.{reverse-append, length-reverse, length-append}
@@ -13,7 +13,7 @@ use Rattle.history.specs.Sessions.{begins_some, session_count, looks_some, readi
 use Rattle.history.specs.Legal.{is_allowed, is_within, may_follow, is_legal, unfinished_sessions, unfinished_readings}
 use Rattle.history_laws.proofs.UnfinishedLaws.{begins_of, closes_of, looks_of, ends_of, sessions_after, readings_after}
 use Rattle.legal_history.specs.declared.legal_history.LegalHistory.TheInside.{Inside}
-use Rattle.legal_history.specs.Recorded.{Recorded, past_of, is_end, unfinished_after}
+use Rattle.legal_history.specs.Recorded.{is_end, unfinished_after}
 use Rattle.legal_history.specs.Rows.{noted, noted_reading}
 use Rattle.legal_history.specs.Agrees.{AreSessions, AreReadings}
 use Rattle.legal_history.specs.Names.{session_at, AreNames}

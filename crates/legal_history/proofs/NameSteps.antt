@@ -1,6 +1,6 @@
 -- What one entry more does to what is kept of the names.
-use Rattle.std.proofs.Common.{◌≡◌, ◌⊎◌, ℕ, ◌≤◌, Bool, true, false, ◌||◌, eqb, cond, List, [], ◌∷◌, slice_get, drop, Option, Some, None, is_some, refl, sym, ap, ◌∙◌, subst, inl, inr, arith}
-use Rattle.std.specs.Option.{option_map_or, option_and_then}
+use Rattle.std.proofs.Common.{◌≡◌, ℕ, Bool, true, false, ◌||◌, cond, List, [], ◌∷◌, slice_get, Option, Some, None, refl, sym, ap, ◌∙◌, inl, inr}
+use Rattle.std.specs.Option.{option_map_or}
 use Rattle.std.specs.List.{list_any, find}
 use Rattle.std.specs.Str.{bytes_eq}
 use Rattle.std.specs.Ordering.{eq_by_cmp}
@@ -15,7 +15,7 @@ use Rattle.history.specs.declared.rules.Rules.{Rules}
 use Rattle.history.specs.Sessions.{session_under, sessions_under, is_unfinished, is_retained, is_held, retained}
 use Rattle.history.specs.Legal.{is_legal}
 use Rattle.ss_base.proofs.MemberLaws.{In, none_in, none_from}
-use Rattle.history_laws.proofs.Allowed.{IsStep, step}
+use Rattle.history_laws.proofs.Allowed.{step}
 use Rattle.history_laws.proofs.NameLaws.{holds, holds_before, in_under, under_free, sessions_none, sessions_one, sessions_same, cases_Option, free_none, begun_once}
 use Rattle.history_laws.proofs.StandingLaws.{made}
 use Rattle.legal_history.specs.Names.{name_cmp, session_at, OneNamed, SameNames, AreNames}
@@ -28,7 +28,7 @@ pub one_named : (m n : tree.BTreeMap (List ℕ) ℕ) (name : List ℕ) (s : ℕ)
 one_named m n name s updates = record {
   here = updates.1;
   other = λ q apart. updates.2 q (false_from_ne_true (eq_by_cmp name_cmp name q) (λ tied.
-    both_ways (bytes_eq q name) apart ((bytes_decides q name).1 (sym (tells_apart exact_names name q tied)))));
+      both_ways (bytes_eq q name) apart ((bytes_decides q name).1 (sym (tells_apart exact_names name q tied)))));
 }
 
 -- ---- one entry more
@@ -40,13 +40,13 @@ pub begun_named : (m n : tree.BTreeMap (List ℕ) ℕ) (author : ℕ) (name : Li
 unfolding session_under
 begun_named m n author name s past one are = record {
   each = λ q.
-    let e : Entry = made author (Begin name (Some s)) in
-    elim (cases_Bool (bytes_eq q name)) [
-      | inl same ↦
-          let is : q ≡ name = (bytes_decides q name).0 same in
-          ap (session_at n) is ∙ one.here ∙ ap (λ l. slice_get l 0) (sym (sessions_one q s e past (ap (λ b. cond b (Some s) None) same)))
-      | inr apart ↦ one.other q apart ∙ are.each q ∙ sym (under_same q e past (ap (λ b. cond b (Some s) None) apart))
-    ];
+      let e : Entry = made author (Begin name (Some s)) in
+      elim (cases_Bool (bytes_eq q name)) [
+        | inl same ↦
+            let is : q ≡ name = (bytes_decides q name).0 same in
+            ap (session_at n) is ∙ one.here ∙ ap (λ l. slice_get l 0) (sym (sessions_one q s e past (ap (λ b. cond b (Some s) None) same)))
+        | inr apart ↦ one.other q apart ∙ are.each q ∙ sym (under_same q e past (ap (λ b. cond b (Some s) None) apart))
+      ];
 }
 
 pub other_named : (m n : tree.BTreeMap (List ℕ) ℕ) (entry : Entry) (past : List Entry) → ((q : List ℕ) → session_under q entry.point ≡ None) → SameNames m n → AreNames m past → AreNames n (entry ∷ past)

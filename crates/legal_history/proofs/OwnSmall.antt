@@ -1,6 +1,6 @@
 -- The ordinals of the containers that a legal history uses are below 2^32 - 1.
-use Rattle.std.proofs.Common.{◌≡◌, ℕ, ◌<◌, ◌≤◌, Bool, true, false, ◌&&◌, eqb, ltb, leb, List, [], ◌∷◌, length, refl, sym, ap, ◌∙◌, subst, inl, inr, arith}
-use Rattle.std.specs.List.{list_any, list_all}
+use Rattle.std.proofs.Common.{◌≡◌, ℕ, ◌<◌, ◌≤◌, true, ◌&&◌, eqb, ltb, List, [], ◌∷◌, sym, subst, inl, inr}
+use Rattle.std.specs.List.{list_any}
 use Rattle.std.proofs.lemmas.Bool.{false≢true, and_parts, or_cases, ltb-true}
 use Rattle.ss_base.specs.declared.ids.ContainerId.{ContainerId}
 use Rattle.ss_base.specs.declared.ids.ManifestId.{ManifestId}

@@ -1,5 +1,5 @@
 -- Places in a list with a default, one of which is set, or with one more item.
-use Rattle.std.proofs.Common.{◌≡◌, ℕ, zero, suc, ◌<◌, ◌≤◌, List, [], ◌∷◌, ◌++◌, length, slice_get, slice_set, Option, Some, None, unwrap_or, refl, ap, arith}
+use Rattle.std.proofs.Common.{◌≡◌, ℕ, zero, suc, ◌<◌, ◌≤◌, List, [], ◌∷◌, ◌++◌, length, slice_get, slice_set, unwrap_or, refl, ap, arith}
 
 module _ {X : Type 0} (d : X) where
   pub set_here : (xs : List X) (t : ℕ) (x : X) → t < length xs → unwrap_or (slice_get (slice_set xs t x) t) d ≡ x

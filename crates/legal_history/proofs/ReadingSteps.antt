@@ -1,6 +1,5 @@
 -- What one entry more does to what is kept of the readings.
-use Rattle.std.proofs.Common.{◌≡◌, ◌⊎◌, ℕ, ◌+◌, ◌<◌, ◌≤◌, Bool, true, false, eqb, List, [], ◌∷◌, ◌++◌, length, slice_set, Option, Some, None, is_some, refl, sym, ap, ◌∙◌, subst, inl, inr, arith, eqb-true, length-append, length-set}
-use Rattle.std.specs.Option.{option_map}
+use Rattle.std.proofs.Common.{◌≡◌, ◌⊎◌, ℕ, ◌+◌, ◌<◌, true, false, eqb, List, [], ◌∷◌, ◌++◌, length, slice_set, Option, Some, None, is_some, refl, sym, ap, ◌∙◌, subst, inl, inr, arith, eqb-true, length-append, length-set}
 use Rattle.std.proofs.lemmas.Bool.{eqb-false, eq-eqb, cases_Bool, and_parts}
 use Rattle.ss_base.proofs.MemberLaws.{count_one, count_other}
 use Rattle.journal_entry.specs.declared.entry.Entry.{Entry}

@@ -1,22 +1,21 @@
 -- What one entry more does to what is kept of one session.
-use Rattle.std.proofs.Common.{◌≡◌, ℕ, ◌+◌, Bool, true, false, not, ◌||◌, eqb, cond, max, List, [], ◌∷◌, ◌++◌, length, Option, Some, None, unwrap_or, is_some, refl, sym, ap, ◌∙◌, subst, arith}
-use Rattle.std.specs.Option.{option_map, option_and_then}
+use Rattle.std.proofs.Common.{◌≡◌, ℕ, Bool, true, false, ◌||◌, eqb, cond, max, List, [], ◌∷◌, ◌++◌, length, Option, Some, None, unwrap_or, is_some, refl, sym, ap, ◌∙◌, subst, arith}
+use Rattle.std.specs.Option.{option_and_then}
 use Rattle.std.proofs.lemmas.Bool.{eq-eqb}
 use Rattle.ss_base.specs.declared.ids.ContainerId.{ContainerId}
 use Rattle.ss_base.specs.declared.ids.ManifestId.{ManifestId}
 use Rattle.ss_base.specs.declared.name.Name.{Name}
 use Rattle.journal_entry.specs.declared.entry.Entry.{Entry}
 use Rattle.journal_entry.specs.declared.entry.Point.{Point}
-use Rattle.journal_entry.specs.declared.entry.Point.TheVariants.{Begin, Choose, Commit, Finish, Abort, Delete, Look, Done, Reclaim, Stat}
-use Rattle.history.specs.Sessions.{is_number, session_begun, begins, chooses, commits, finishes, aborts, closes, deletes, settles, has, newest, champions_chosen, pending, is_pending}
+use Rattle.journal_entry.specs.declared.entry.Point.TheVariants.{Begin, Choose, Commit, Finish, Abort, Delete}
+use Rattle.history.specs.Sessions.{is_number, session_begun, begins, chooses, commits, finishes, aborts, closes, deletes, settles, newest, champions_chosen, pending, is_pending}
 use Rattle.history.specs.OwnEnd.{greatest_by, end_among, end_used, own_end}
-use Rattle.history_laws.specs.EntryNumbers.{numbers_of, last_champions, CommitThese}
+use Rattle.history_laws.specs.EntryNumbers.{last_champions, CommitThese}
 use Rattle.history_laws.proofs.OtherLaws.{IsOther, pending_kept, ends_same}
 use Rattle.history_laws.proofs.NumberLaws.{numbers_more, numbers_same, commit_these_kept}
 use Rattle.history_laws.proofs.SessionLaws.{has_same, has_now}
 use Rattle.history_laws.proofs.StandingLaws.{made}
-use Rattle.legal_history.specs.declared.stage.Stage.{Stage}
-use Rattle.legal_history.specs.declared.stage.Stage.TheVariants.{Unfinished, Retained, Aborted, Deleted}
+use Rattle.legal_history.specs.declared.stage.Stage.TheVariants.{Unfinished, Retained}
 use Rattle.legal_history.specs.Rows.{Row, no_row, begun, chosen, committed, finished, aborted, deleted}
 use Rattle.legal_history.specs.Agrees.{IsSession, was_closed, was_finished, was_deleted}
 

@@ -1,6 +1,5 @@
 -- What one entry more does to what is kept of all sessions.
-use Rattle.std.proofs.Common.{◌≡◌, ◌⊎◌, ℕ, ◌+◌, ◌<◌, ◌≤◌, Bool, true, false, eqb, List, [], ◌∷◌, ◌++◌, length, map, slice_set, get_or, Option, Some, None, is_some, unwrap_or, zero, suc, refl, sym, ap, ◌∙◌, subst, inl, inr, arith, eqb-true, length-append, length-set}
-use Rattle.std.specs.List.{list_any}
+use Rattle.std.proofs.Common.{◌≡◌, ◌⊎◌, ℕ, ◌+◌, ◌<◌, ◌≤◌, true, false, eqb, List, [], ◌∷◌, ◌++◌, length, map, slice_set, get_or, Option, Some, None, is_some, unwrap_or, zero, suc, refl, sym, ap, ◌∙◌, subst, inl, inr, arith, eqb-true, length-append, length-set}
 use Rattle.std.proofs.lemmas.Bool.{false≢true, eqb-false, eq-eqb, cases_Bool}
 use Rattle.std.proofs.lemmas.Option.{slice_get-get_or}
 use Rattle.ss_base.specs.declared.ids.ManifestId.{ManifestId}
@@ -11,17 +10,16 @@ use Rattle.journal_entry.specs.declared.entry.Entry.{Entry}
 use Rattle.journal_entry.specs.declared.entry.Point.{Point}
 use Rattle.journal_entry.specs.declared.entry.Point.TheVariants.{Begin, Choose, Commit, Finish, Abort, Delete}
 use Rattle.history.specs.declared.rules.Rules.{Rules}
-use Rattle.history.specs.Sessions.{is_number, session_begun, begins_some, session_count, begins, chooses, commits, finishes, aborts, closes, deletes, has, newest, pending, is_pending, is_unfinished, is_retained, commits_of, champions_chosen}
+use Rattle.history.specs.Sessions.{is_number, session_begun, begins_some, session_count, commits, finishes, aborts, has, newest, pending, is_pending, is_unfinished, is_retained, commits_of, champions_chosen}
 use Rattle.history.specs.OwnEnd.{greatest_by, end_among, own_end}
 use Rattle.history.specs.Need.{commits_manifest}
-use Rattle.history.specs.Legal.{is_legal, is_allowed, is_open_to}
+use Rattle.history.specs.Legal.{is_legal, is_allowed}
 use Rattle.history_laws.specs.EntryNumbers.{numbers_of, committed_at, last_champions, CommitThese}
 use Rattle.history_laws.proofs.Allowed.{IsStep, step, begin_says, choose_says, commit_says, finishes_open, aborts_open, delete_says, retained_is}
 use Rattle.history_laws.proofs.SessionLaws.{unfinished_is, retained_parts, begun_below, committed_below}
 use Rattle.history_laws.proofs.NumberLaws.{numbers_length, commits_at}
 use Rattle.history_laws.proofs.NeedLaws.{chosen_somewhere}
 use Rattle.history_laws.proofs.LiveLaws.{somewhere_committed}
-use Rattle.history_laws.proofs.OtherLaws.{IsOther}
 use Rattle.history_laws.proofs.StandingLaws.{made}
 use Rattle.legal_history.specs.declared.stage.Stage.{Stage}
 use Rattle.legal_history.specs.declared.stage.Stage.TheVariants.{Unfinished, Retained, Aborted, Deleted}

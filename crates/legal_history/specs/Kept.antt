@@ -1,5 +1,5 @@
 -- What a legal history keeps (this project's own).
-use Rattle.std.specs.Prelude.{ℕ, ◌≡◌, ◌+◌, ◌^◌, ◌<◌, ◌≤◌, true, List, length, reverse, vec_len, vec_capacity}
+use Rattle.std.specs.Prelude.{◌≡◌, ◌+◌, ◌^◌, ◌<◌, ◌≤◌, true, List, length, reverse, vec_len, vec_capacity}
 use Rattle.journal_entry.specs.declared.entry.Entry.{Entry}
 use Rattle.history.specs.Legal.{is_legal, unfinished_sessions, unfinished_readings}
 use Rattle.legal_history.specs.declared.legal_history.LegalHistory.TheInside.{Inside}

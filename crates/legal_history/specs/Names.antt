@@ -1,5 +1,5 @@
 -- Which session last began under each name (this project's own).
-use Rattle.std.specs.Prelude.{ℕ, ◌≡◌, List, slice_get, Option, None, Some}
+use Rattle.std.specs.Prelude.{ℕ, ◌≡◌, List, slice_get, Option, Some}
 use Rattle.std.specs.Str.{bytes_eq}
 use Rattle.std.specs.declared.cmp.Ordering.{Ordering}
 use Rattle.std.specs.BTreeMap as tree

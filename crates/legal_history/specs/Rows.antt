@@ -1,5 +1,5 @@
 -- What is kept of each session and reading, by the numbers of entries (this project's own).
-use Rattle.std.specs.Prelude.{ℕ, ◌-◌, length, Bool, true, false, max, List, [], ◌∷◌, ◌++◌, map, slice_get, slice_set, slice_index, Option, Some, None, unwrap_or}
+use Rattle.std.specs.Prelude.{ℕ, ◌-◌, length, Bool, true, false, max, List, [], ◌∷◌, ◌++◌, map, slice_get, slice_set, slice_index, Option, Some, unwrap_or}
 use Rattle.ss_base.specs.declared.ids.ManifestId.{ManifestId}
 use Rattle.journal_entry.specs.declared.entry.Point.{Point}
 use Rattle.journal_entry.specs.declared.entry.Point.TheVariants.{Begin, Choose, Commit, Finish, Abort, Delete, Look, Done}

@@ -285,7 +285,8 @@ fn unfinished_after(count: u32, point: &Point) -> u32
 {
     match point {
         Point::Begin {
-            session: Some(_), ..
+            session: Some(_),
+            ..
         } => count + 1,
         Point::Look { seen: Some(_), .. } => count + 1,
         Point::Finish { .. } => count.saturating_sub(1),

@@ -55,12 +55,7 @@ impl Parts {
         }
     }
 
-    fn begin(
-        &mut self,
-        number: u32,
-        name: StreamName,
-        session: u32,
-    ) -> Result<(), Memory>
+    fn begin(&mut self, number: u32, name: StreamName, session: u32) -> Result<(), Memory>
         ensures ok { OnOk result (HasBegun number name session self.old self.new) }
         ensures err { OnErr result (AsBefore self.old self.new) }
     {

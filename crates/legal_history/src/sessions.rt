@@ -151,10 +151,13 @@ impl Sessions {
     {
         match point {
             Point::Begin {
-                session: Some(_), ..
+                session: Some(_),
+                ..
             } => self.begin_session(number),
             Point::Choose {
-                session, champions, ..
+                session,
+                champions,
+                ..
             } => self.choose(*session, number, champions.as_slice()),
             Point::Commit { manifest, uses, .. } => {
                 self.commit(manifest.session, number, uses.as_slice())
@@ -193,12 +196,7 @@ impl Sessions {
         let _ = self.rows.pop();
     }
 
-    fn choose(
-        &mut self,
-        session: u32,
-        number: u32,
-        champions: &[ManifestId],
-    ) -> Result<(), Memory>
+    fn choose(&mut self, session: u32, number: u32, champions: &[ManifestId]) -> Result<(), Memory>
         ensures ok { OnOk result (self.new ≡ changed session (chosen number (map (commit_number self.old) champions.now)) self.old) }
         ensures err { OnErr result (self.new ≡ self.old) }
     {
@@ -206,12 +204,7 @@ impl Sessions {
         self.choose_these(session, number, numbers)
     }
 
-    fn choose_these(
-        &mut self,
-        session: u32,
-        number: u32,
-        champions: Vec<u32>,
-    ) -> Result<(), Memory>
+    fn choose_these(&mut self, session: u32, number: u32, champions: Vec<u32>) -> Result<(), Memory>
         ensures ok { OnOk result (self.new ≡ changed session (chosen number champions.items) self.old) }
         ensures err { OnErr result (self.new ≡ self.old) }
     {
