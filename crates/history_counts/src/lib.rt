@@ -9,3 +9,6 @@ mod room;
 pub use adding::add_entry;
 pub use laws::{dead_is_erasable, nothing_is_counted};
 pub use room::make_room;
+
+#[cfg(test)]
+mod tests;
