@@ -20,6 +20,11 @@ use std::rt::Files;
 /// No name leads out of the folder. Names of the depot's objects are made of letters, digits and `-`. A file
 /// name is what the user wrote, of the bytes from `!` to `~`: it stands behind the folder and a `/`, so a leading
 /// `/` means the folder, and one that has `..` among its parts is a fault before any file is touched.
+///
+/// Files in use stay open, at most eight to be read and eight to be added to; one is closed where this handle creates
+/// or erases its name, and after an `Err` on it. Another handle's erase is not noticed: this one may go on with the
+/// erased file. Names of the depot are never used twice, so no other bytes come of it. A file that makes room for
+/// another is put on the disk first where `sync` would, and an `Err` of that is a fault of the call at hand.
 #[derive(Drop)]
 pub struct DirShelf<'a, R: Files + Sync> {
     rt: &'a R,
