@@ -8,3 +8,4 @@ mod NameSteps
 mod OwnSmall
 mod ReadLaws
 mod KeptLaws
+mod FirstEntries

@@ -13,3 +13,6 @@ mod uses;
 
 pub use history::{Entry, Point, Rules, Seen};
 pub use legal_history::LegalHistory;
+
+#[cfg(test)]
+mod tests;
