@@ -194,3 +194,20 @@ fn dead_objects_of_many_sessions(rt: HostRuntime) -> Result<(), Fail> {
     }
     Ok(())
 }
+
+// What has room is marked without memory.
+#[test]
+fn marked_where_there_is_room(rt: HostRuntime) -> Result<(), Fail> {
+    let alloc = rt.alloc();
+    let mut counts = Counts::new(alloc);
+    open(&mut counts)?;
+    counts.close(0, 1, 1);
+    let object = manifest(0, 0);
+    counts.make_ready(object)?;
+    counts.mark_all(&[object]);
+    assert_eq!(rt;
+        counts.dead(alloc, 16)?.as_slice(),
+        [container(0, 0)].as_slice()
+    );
+    Ok(())
+}
