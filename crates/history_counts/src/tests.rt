@@ -1,8 +1,14 @@
+ghost use Rattle.std.specs.Prelude.{◌≡◌, [], IfOk};
+ghost use Rattle.history_laws.specs.EntryNumbers.{CommitThese};
+ghost use Rattle.history_counts.specs.CountsOf.{AreCountsOf};
+ghost use Rattle.history_counts.specs.Streams.{pins_of, stream_of, commits_in};
+
 use super::*;
-use history::{Entry, Items, Point};
+use history::{Entry, Items, Limits, Point, Rules, first_illegal};
 use pins_counts::Counts;
 use ss_base::{ContainerId, ManifestId, Name, Object, StreamName};
 use std::alloc::Global;
+use std::process::Abort;
 use std::test::Fail;
 
 const M00: ManifestId = ManifestId { session: 0, seq: 0 };
@@ -12,7 +18,21 @@ const C00: ContainerId = ContainerId {
     ordinal: 0,
 };
 
-fn begin() -> Result<Point, Fail> {
+const RULES: Rules = Rules {
+    bits: 1,
+    standings: 8,
+    champions: 8,
+    limits: Limits {
+        entries: 100,
+        weight: 100,
+    },
+};
+
+#[tactic(auto, unfolding(crate::specs::Streams::pins_of, crate::specs::Streams::stream_of, crate::specs::Streams::commits_in, history_laws::specs::EntryNumbers::CommitThese))]
+fn begin() -> Result<Point, Fail>
+    ensures pins { IfOk result (λ point. CommitThese [] (pins_of point []) []) }
+    ensures stream { IfOk result (λ point. [] ≡ commits_in (stream_of point []) []) }
+{
     let name = StreamName::new(b"x").ok_or("a stream name")?;
     Ok(Point::Begin {
         name,
@@ -53,5 +73,31 @@ fn room_changes_no_number(rt: HostRuntime) -> Result<(), Fail> {
     }
     nothing_is_counted();
     dead_is_erasable();
+    Ok(())
+}
+
+// The first entry of a history.
+fn add_first(rt: &impl Abort, alloc: Global, counts: &mut Counts, entry: Entry) -> Result<(), Fail>
+    requires agrees { AreCountsOf counts.old [] }
+    requires pins { CommitThese [] (pins_of entry.point []) [] }
+    requires stream { [] ≡ commits_in (stream_of entry.point []) [] }
+{
+    make_room(counts, &entry)?;
+    let entries = [entry];
+    let legal = first_illegal(alloc, &RULES, &entries)?.is_none();
+    assert!(rt; legal);
+    add_entry(counts, &RULES, &[], &entries[0], &[], &[]);
+    Ok(())
+}
+
+// A session begins: it has nothing yet.
+#[test]
+fn a_session_begins(rt: HostRuntime) -> Result<(), Fail> {
+    let alloc = rt.alloc();
+    let mut counts = Counts::new(alloc);
+    nothing_is_counted();
+    let point = begin()?;
+    add_first(&rt, alloc, &mut counts, Entry { author: 0, point })?;
+    assert!(rt; counts.dead(alloc, 16)?.is_empty());
     Ok(())
 }
