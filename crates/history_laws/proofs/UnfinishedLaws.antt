@@ -78,10 +78,6 @@ unfinished_with : (t : ℕ) (entry : Entry) (past : List Entry) → begins t ent
 unfolding is_unfinished
 unfinished_with t entry past unbegun unclosed = λ i. has_same (begins t) entry past unbegun i && not (has_same (closes t) entry past unclosed i)
 
-begins_at : (t : ℕ) (point : Point) (o : Option ℕ) → session_begun point ≡ o → begins t point ≡ is_number t o
-unfolding begins
-begins_at t point o e = ap (is_number t) e
-
 some_count : {X : Type 0} (p : X → Bool) (x : X) (xs : List X) → In x xs → p x ≡ true → 1 ≤ count_by p xs
 some_count p x [] h e = absurd h
 some_count p x (y ∷ ys) (inl same) e = let here = count_one p y ys (ap p same ∙ e) in omega (arith, here)

@@ -104,21 +104,6 @@ module _ (h : Inside) (entry : Entry) (kept : IsKept h) (follows : may_follow h.
         room = room;
       }
 
--- what is kept where nothing was noted
-pub kept_still : (h new : Inside) → IsKept h → new.rules ≡ h.rules → new.entries.items ≡ h.entries.items → AsBefore h.parts new.parts → new.unfinished ≡ h.unfinished → vec_len new.entries + new.unfinished ≤ vec_capacity new.entries → IsKept new
-kept_still h new kept same items before unfinished room =
-    let past : past_in h ≡ past_in new = ap reverse (sym items) in
-    record {
-      legal = subst (λ (r : Rules). is_legal r (past_in new) ≡ true) (sym same) (subst (λ (p : List Entry). is_legal h.rules p ≡ true) past kept.legal);
-      limit = subst (λ (r : Rules). r.limits.entries < 2 ^ 32) (sym same) kept.limit;
-      few = subst (λ (l : List Entry). length l < 2 ^ 32) (sym items) kept.few;
-      rows = subst (AreSessions new.parts.sessions) past (subst (λ l. AreSessions l (past_in h)) (sym before.rows) kept.rows);
-      readers = subst (AreReadings new.parts.readings) past (subst (λ l. AreReadings l (past_in h)) (sym before.readers) kept.readers);
-      named = subst (AreNames new.parts.names.sessions) past (record { each = λ q. before.named.each q ∙ kept.named.each q });
-      unfinished = unfinished ∙ kept.unfinished ∙ ap (λ (p : List Entry). unfinished_sessions p + unfinished_readings p) past;
-      room = room;
-    }
-
 none_legal : (rules : Rules) → is_legal rules [] ≡ true
 unfolding is_legal
 none_legal rules = refl

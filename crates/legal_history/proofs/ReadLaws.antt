@@ -46,9 +46,6 @@ newest_kept does entries numbers is =
     ∙ ap (λ (l : List Entry). option_and_then (λ n. slice_get l n) (last_of numbers)) (reverse-reverse entries)
 
 -- whether some entry does it, by their numbers
-some_there : (numbers : List ℕ) → numbers ≡ [] → is_some (last_of numbers) ≡ false
-some_there numbers none = ap (λ l. is_some (last_of l)) none
-
 pub has_last : (does : Point → Bool) (past : List Entry) (numbers : List ℕ) → numbers ≡ numbers_of does past → is_some (last_of numbers) ≡ has does past
 has_last does past numbers is =
     elim (newest does past) as (λ (o : Option Entry). newest does past ≡ o → is_some (last_of numbers) ≡ has does past) [
