@@ -17,7 +17,7 @@ use Rattle.legal_history.specs.Recorded.{is_end, unfinished_after}
 use Rattle.legal_history.specs.Rows.{noted, noted_reading}
 use Rattle.legal_history.specs.Agrees.{AreSessions, AreReadings}
 use Rattle.legal_history.specs.Names.{session_at, AreNames}
-use Rattle.legal_history.specs.Parts.{HasNoted, AsBefore}
+use Rattle.legal_history.specs.Parts.{HasNoted}
 use Rattle.legal_history.specs.Kept.{past_in, IsKept}
 use Rattle.legal_history.proofs.TableSteps.{sessions_noted, sessions_first}
 use Rattle.legal_history.proofs.ReadingSteps.{readings_noted, readings_first}
