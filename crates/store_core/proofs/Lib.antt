@@ -1,0 +1,5 @@
+mod NewestLaws
+mod PinLaws
+mod AllowLaws
+mod ChoiceLaws
+mod KeptLaws

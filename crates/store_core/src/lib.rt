@@ -1,0 +1,21 @@
+//! A store's history and all that follows from it: each call adds the one entry that a legal history allows there, and
+//! answers what that entry says.
+#![tactic(auto)]
+
+mod choosing;
+mod fault;
+mod following;
+mod journal;
+mod keeping;
+mod kept;
+mod reclaiming;
+mod sessions;
+mod state;
+mod streams;
+mod values;
+
+pub use fault::{BeginFault, NameFault, OpenFault, PointFault};
+pub use kept::Kept;
+pub use reclaiming::{Removal, removal_object};
+pub use state::State;
+pub use values::{Choice, Looked, Stored};
