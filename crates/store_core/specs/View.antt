@@ -1,6 +1,6 @@
 -- What contracts see of a state, of what is kept of a manifest and of a choice (this project's own).
 use Rattle.history_laws.specs.EntryNumbers.{numbers_of, entry_at}
-use Rattle.std.specs.Prelude.{ℕ, ◌≡◌, ◌≤◌, true, false, List, [], ◌∷◌, ◌++◌, filter_map, reverse, Option, None, Some, option_and_then}
+use Rattle.std.specs.Prelude.{ℕ, ◌^◌, nat_lt, if◌then◌else◌, ◌≡◌, ◌≤◌, true, false, List, [], ◌∷◌, ◌++◌, filter_map, reverse, Option, None, Some, option_and_then}
 use Rattle.ss_base.specs.declared.ids.ContainerId.{ContainerId}
 use Rattle.ss_base.specs.declared.ids.ManifestId.{ManifestId}
 use Rattle.ss_base.specs.declared.name.Name.{Name}
@@ -13,6 +13,7 @@ use Rattle.history.specs.declared.rules.Limits.{Limits}
 use Rattle.history.specs.declared.rules.Rules.{Rules}
 use Rattle.history.specs.Sessions.{newest, commits}
 use Rattle.legal_history.specs.Recorded.{Recorded}
+use Rattle.history_totals.specs.TallyOf.{next_author}
 use Rattle.history.specs.Need.{commits_manifest}
 use Rattle.history.specs.Legal.{is_within}
 
@@ -44,6 +45,10 @@ pub record Adds (old new : StateView) (entry : Entry) : Type 0 where
 pub record IsFull (old new : StateView) (entry : Entry) : Type 0 where
   pub same : new ≡ old
   pub over : is_within old.limits (entry ∷ past_of old) ≡ false
+
+-- one above the greatest author, or 0; none where there is no such number of 32 bits
+abbrev pub author_after : List Entry → Option ℕ
+author_after past = if nat_lt (next_author past) (2 ^ 32) then Some (next_author past) else None
 
 -- what is kept of a manifest by its Commit
 pub record KeptView : Type 0 where

@@ -7,7 +7,7 @@ ghost use Rattle.history.specs.Need.{erasable};
 ghost use Rattle.history.specs.TotalsOf.{totals};
 ghost use Rattle.history.specs.Sessions.{commits_of};
 ghost use Rattle.history.specs.Legal.{is_allowed, is_within, may_follow, reply_to_begin, reply_to_look};
-ghost use Rattle.store_core.specs.View.{stream_kept};
+ghost use Rattle.store_core.specs.View.{author_after, stream_kept};
 ghost use Rattle.legal_history.specs.Recorded.{past_of, is_end};
 
 use crate::Kept;
@@ -98,6 +98,14 @@ impl<const L: usize> Journal<L> {
         ensures { result ≡ totals (past_of self.now) }
     {
         self.tally.totals
+    }
+
+    /// One above the greatest author, or 0. None where the greatest is 2^32 - 1.
+    #[tactic(auto, unfolding(history_totals::specs::TallyOf::tally_of))]
+    pub(crate) fn next_author(&self) -> Option<u32>
+        ensures { result ≡ author_after (past_of self.now) }
+    {
+        self.tally.next_author()
     }
 
     /// What a Begin under this name is answered: the next session, or none where the name is held.

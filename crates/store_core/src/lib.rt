@@ -2,16 +2,20 @@
 //! answers what that entry says.
 #![tactic(auto)]
 
+mod allowed;
 mod choosing;
 mod fault;
 mod following;
+mod hooks;
 mod journal;
 mod keeping;
 mod kept;
 mod reclaiming;
+mod replaying;
 mod sessions;
 mod state;
 mod streams;
+mod uses;
 mod values;
 
 pub use fault::{BeginFault, NameFault, OpenFault, PointFault};

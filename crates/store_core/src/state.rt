@@ -6,12 +6,12 @@ ghost use Rattle.ss_base.specs.Profile.{numbers_of};
 ghost use Rattle.history.specs.StandingList.{standing};
 ghost use Rattle.history.specs.Legal.{is_allowed, is_legal};
 ghost use Rattle.legal_history.specs.Recorded.{is_end};
-ghost use Rattle.store_core.specs.View.{past_of, rules_of, recorded_of, made, Adds};
+ghost use Rattle.store_core.specs.View.{author_after, past_of, rules_of, recorded_of, made, Adds};
 ghost use Rattle.store_core.specs.Answers.{AddAnswer};
 
 use crate::PointFault;
 use crate::journal::Journal;
-use history::{Entry, Limits, Point, Rules};
+use history::{Entry, Limits, Logged, Point, Rules};
 use sparse_index::Index;
 use ss_base::Profile;
 use std::alloc::Global;
@@ -34,6 +34,15 @@ impl<const L: usize, const M: usize> Model for State<L, M> {
     ghost view = { λ s. record { profile = s.profile; limits = s.journal.rules.limits; entries = s.journal.entries } };
 
     ghost invariant = { λ s. IsStateOf L M s.profile s.journal };
+}
+
+impl<const L: usize, const M: usize> Logged for State<L, M> {
+    ghost use Rattle.std.specs.Prelude.{[], ◌∷◌};
+    ghost use Rattle.ss_base.specs.Profile.{profile_code};
+
+    ghost entries = { λ state. state.entries };
+
+    ghost base = { λ state. profile_code state.profile ∷ state.limits.entries ∷ state.limits.weight ∷ [] };
 }
 
 impl<const L: usize, const M: usize> State<L, M> {
@@ -75,6 +84,13 @@ impl<const L: usize, const M: usize> State<L, M> {
         ensures { result ≡ (numbers_of self.now.profile).bits }
     {
         self.journal.history().rules().bits
+    }
+
+    /// The author that comes next: one above the greatest of the entries, or 0. None where the greatest is 2^32 - 1.
+    pub fn next_author(&self) -> Option<u32>
+        ensures { result ≡ author_after (past_of self.now) }
+    {
+        self.journal.next_author()
     }
 
     /// The index of hooks: at every hook it has what stands there by the entries.
