@@ -1,5 +1,5 @@
 -- Which entries are allowed, by what calls on a state ask for.
-use Rattle.std.proofs.Common.{◌≡◌, ℕ, suc, ◌+◌, ◌≤◌, true, false, eqb, List, [], ◌∷◌, length, reverse, take, Result, Ok, Err, OnOk, IsOk, Option, Some, None, refl, sym, subst, arith}
+use Rattle.std.proofs.Common.{◌≡◌, ℕ, suc, ◌+◌, ◌≤◌, Bool, true, false, ◌&&◌, eqb, leb, List, [], ◌∷◌, length, reverse, take, Result, Ok, Err, OnOk, IsOk, Option, Some, None, refl, sym, subst, arith}
 use Rattle.std.specs.Option.{option_eq}
 use Rattle.std.proofs.lemmas.Bool.{false≢true, and_from, and_parts, or_left, or_right, not_from_false, eq-eqb, le-leb, leb-true}
 use Rattle.ss_base.specs.declared.ids.ContainerId.{ContainerId}
@@ -8,6 +8,7 @@ use Rattle.ss_base.specs.declared.name.Name.{Name}
 use Rattle.journal_entry.specs.declared.entry.Entry.{Entry}
 use Rattle.journal_entry.specs.declared.entry.Seen.{Seen}
 use Rattle.journal_entry.specs.declared.entry.Totals.{Totals}
+use Rattle.journal_entry.specs.Weight.{weight}
 use Rattle.journal_entry.specs.declared.entry.Point.{Point}
 use Rattle.journal_entry.specs.declared.entry.Point.TheVariants.{Begin, Choose, Commit, Finish, Abort, Delete, Look, Done, Reclaim, Stat}
 use Rattle.history.specs.Bounds.{are_counts}
@@ -117,14 +118,19 @@ end_within rules author (Abort s n texts) past legal allowed e =
 end_within rules author (Done r) past legal allowed e = end_of_reading_fits rules r (made author (Done r)) past legal (and_parts _ _ allowed).0 (eq-eqb r r refl)
 end_within rules author point past legal allowed e = absurd (false≢true e)
 
+few_of : (n s r limit : ℕ) → suc n + s + r ≤ limit → suc n ≤ limit
+few_of n s r limit below = omega (arith, below)
+
 -- a legal history has no more entries than its limit
 pub legal_short : (rules : Rules) (past : List Entry) → is_legal rules past ≡ true → length past ≤ rules.limits.entries
 unfolding is_legal may_follow is_within
 legal_short rules [] legal = omega arith
 legal_short rules (entry ∷ past) legal =
-    let within = (and_parts _ _ (and_parts _ _ legal).1).1 in
-    let below : suc (length past) + unfinished_sessions (entry ∷ past) + unfinished_readings (entry ∷ past) ≤ rules.limits.entries = leb-true (suc (length past) + unfinished_sessions (entry ∷ past) + unfinished_readings (entry ∷ past)) rules.limits.entries (and_parts _ _ within).0 in
-    omega (arith, below)
+    let most : Bool = leb (suc (length past) + unfinished_sessions (entry ∷ past) + unfinished_readings (entry ∷ past)) rules.limits.entries in
+    let light : Bool = leb (weight (entry ∷ past)) rules.limits.weight in
+    let follows : is_allowed rules past entry.author entry.point && (most && light) ≡ true = (and_parts (is_legal rules past) (is_allowed rules past entry.author entry.point && (most && light)) legal).1 in
+    let within : most && light ≡ true = (and_parts (is_allowed rules past entry.author entry.point) (most && light) follows).1 in
+    few_of _ _ _ _ (leb-true _ _ (and_parts most light within).0)
 
 -- a state's rules are those of what is kept beside its entries
 pub rules_are : (standings champions : ℕ) (profile : Profile) (journal : Recorded) → IsStateOf standings champions profile journal
