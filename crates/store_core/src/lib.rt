@@ -23,3 +23,10 @@ pub use kept::Kept;
 pub use reclaiming::{Removal, removal_object};
 pub use state::State;
 pub use values::{Choice, Looked, Stored};
+
+#[cfg(test)]
+mod entry_rule_tests;
+#[cfg(test)]
+mod entry_tables;
+#[cfg(test)]
+mod history_tables;
