@@ -30,3 +30,7 @@ mod entry_rule_tests;
 mod entry_tables;
 #[cfg(test)]
 mod history_tables;
+#[cfg(test)]
+mod checked_call_tests;
+#[cfg(test)]
+mod played_history_tests;
