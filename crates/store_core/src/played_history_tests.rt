@@ -102,7 +102,7 @@ fn scanned_objects(alloc: Global, entries: &[Entry]) -> Result<Vec<Object>, Fail
 }
 
 // The index, the totals and what a reclaim would name are what scans of the entries give.
-fn agrees<const L: usize, const M: usize>(
+pub(crate) fn agrees<const L: usize, const M: usize>(
     rt: &impl process::Abort,
     alloc: Global,
     state: &State<L, M>,
@@ -142,7 +142,7 @@ fn are_same<const L: usize, const M: usize>(
 }
 
 // The state of these entries, or why there is none.
-fn replayed<const L: usize, const M: usize>(
+pub(crate) fn replayed<const L: usize, const M: usize>(
     limits: Limits,
     alloc: Global,
     entries: Vec<Entry>,
@@ -157,7 +157,7 @@ fn replayed<const L: usize, const M: usize>(
 }
 
 // A copy of the state's entries gives the same state, or what is left unfinished.
-fn replays<const L: usize, const M: usize>(
+pub(crate) fn replays<const L: usize, const M: usize>(
     rt: &impl process::Abort,
     alloc: Global,
     limits: Limits,
