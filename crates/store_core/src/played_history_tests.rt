@@ -65,12 +65,13 @@ fn left_unfinished(entries: &[Entry]) -> Option<OpenFault> {
     None
 }
 
-fn names_few(entry: &Entry) -> bool
-    ensures { result ≡ true → objects_named entry.now.point ≤ 16 }
+#[tactic(auto, unfolding(history::specs::TotalsOf::objects_named))]
+fn objects_named(point: &Point) -> usize
+    ensures { result ≡ objects_named point.now }
 {
-    match &entry.point {
-        Point::Reclaim { objects } => objects.as_slice().len() <= 16,
-        _ => true,
+    match point {
+        Point::Reclaim { objects } => objects.as_slice().len(),
+        _ => 0,
     }
 }
 
@@ -79,7 +80,7 @@ fn name_few(entries: &[Entry]) -> bool
 {
     match entries {
         [] => true,
-        [entry, rest @ ..] => names_few(entry) && name_few(rest),
+        [entry, rest @ ..] => objects_named(&entry.point) <= 16 && name_few(rest),
     }
 }
 
