@@ -35,7 +35,7 @@ kept_at_none entries n is = rw (reverse-reverse entries, is) refl
 
 -- ---- the entry that commits a manifest is the only one
 
-says_commit : (id : ManifestId) (point : Point) → manifest_of point ≡ Some id → commits_manifest id point ≡ true
+pub says_commit : (id : ManifestId) (point : Point) → manifest_of point ≡ Some id → commits_manifest id point ≡ true
 unfolding manifest_of commits_manifest
 says_commit id (Commit other content text chunks bytes fresh fresh_bytes uses) is =
     let same : other ≡ id = cc in
@@ -74,10 +74,10 @@ only_commit rules id (entry ∷ past) n found legal at is =
       | inr last ↦ newest_now (commits_manifest id) entry past (ap (λ (e : Entry). commits_manifest id e.point) last.1 ∙ says_commit id found.point is) ∙ ap Some last.1
     ]
 
-none_is_some : {X : Type 0} {x : X} → None ≡ Some x → ⊥
+pub none_is_some : {X : Type 0} {x : X} → None ≡ Some x → ⊥
 none_is_some e = cc
 
-committed_of : (past : List Entry) (n : ℕ) (o : Option Entry) → entry_at n past ≡ o → committed_at past n ≡ option_and_then (λ (entry : Entry). manifest_of entry.point) o
+pub committed_of : (past : List Entry) (n : ℕ) (o : Option Entry) → entry_at n past ≡ o → committed_at past n ≡ option_and_then (λ (entry : Entry). manifest_of entry.point) o
 unfolding committed_at
 committed_of past n o there = ap (option_and_then (λ (entry : Entry). manifest_of entry.point)) there
 

@@ -3,3 +3,6 @@ mod PinLaws
 mod AllowLaws
 mod ChoiceLaws
 mod KeptLaws
+mod SeenLaws
+mod UsesLaws
+mod ReplayLaws

@@ -120,7 +120,7 @@ unfolding pending newest
 waits s [] is = absurd (cc)
 waits s (entry ∷ past) is = waits_after s entry.author entry.point past (waits s past) is
 
-pending_is_last : (s : ℕ) (past : List Entry) → is_pending s past ≡ true → last_champions s past ≡ pending_champions s past
+pub pending_is_last : (s : ℕ) (past : List Entry) → is_pending s past ≡ true → last_champions s past ≡ pending_champions s past
 unfolding is_pending pending_champions
 pending_is_last s past is = sym (waits s past is)
 

@@ -1,6 +1,6 @@
 -- What the entries of a journal give (this project's own).
-use Rattle.std.specs.Prelude.{ℕ, ◌≡◌, ◌+◌, ◌<◌, Bool, true, false, List, ◌∷◌, length, reverse, take, Result, Ok, Err, Unit}
-use Rattle.ss_base.specs.declared.fault.Memory.{Memory as NoMemory}
+use Rattle.std.specs.Prelude.{ℕ, ◌≡◌, ◌+◌, ◌<◌, Bool, true, false, List, length, reverse, take, Result, Ok, Err}
+use Rattle.ss_base.specs.declared.memory.Memory.{Memory as NoMemory}
 use Rattle.journal_entry.specs.declared.entry.Entry.{Entry}
 use Rattle.history.specs.Sessions.{is_unfinished, is_reading}
 use Rattle.history.specs.Legal.{is_legal, may_follow}

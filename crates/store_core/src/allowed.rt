@@ -79,7 +79,8 @@ fn is_open_to(history: &LegalHistory, author: u32, session: u32) -> bool
     history.is_unfinished(session) && history.is_begun_by(author, session)
 }
 
-// Whether the author may choose these champions; by the history they are those that were found.
+// Whether the author may choose these champions, where those that were found are the history's.
+#[tactic(auto, unfolding(history::specs::Legal::is_allowed))]
 fn is_choice_allowed<const L: usize>(
     journal: &Journal<L>,
     alloc: Global,
@@ -94,13 +95,13 @@ fn is_choice_allowed<const L: usize>(
     ensures { IfOk result (λ allowed. allowed ≡ is_allowed journal.now.rules (past_of journal.now) author (ChoosePoint session hooks.now champions.now)) }
 {
     let history = journal.history();
-    if !is_open_to(history, author, session) || history.is_pending(session) {
-        return Ok(false);
-    }
-    if !are_hooks(alloc, history.rules().bits, hooks)? {
-        return Ok(false);
-    }
-    Ok(same_manifests(champions, found))
+    let fine = are_hooks(alloc, history.rules().bits, hooks)?;
+    Ok(
+        is_open_to(history, author, session)
+            && !history.is_pending(session)
+            && fine
+            && same_manifests(champions, found),
+    )
 }
 
 // Whether the manifest is that of the segment which its session chose for last.

@@ -11,6 +11,7 @@ use std::alloc::Global;
 use std::collections::BTreeSet;
 
 // Puts the hooks into an empty set, the last first, up to the first that it has. Answers whether it had none.
+#[tactic(auto, unfolding(ss_base::specs::Ids::are_distinct))]
 fn put_distinct(seen: &mut BTreeSet<Name>, hooks: &[Name]) -> Result<bool, Memory>
     requires { seen.old.keys ≡ [] }
     ensures distinct { IfOk result (λ distinct. distinct ≡ are_distinct hooks.now) }

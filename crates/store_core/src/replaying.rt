@@ -1,7 +1,9 @@
 // A state from the entries of a journal.
-ghost use Rattle.std.specs.Prelude.{◌≡◌, ◌≤◌, ◌^◌, IfNone, IfSome, OnOk};
+ghost use Rattle.std.specs.Prelude.{◌≡◌, ◌≤◌, ◌^◌, IfNone, IfSome, IfOk};
 ghost use Rattle.history.specs.Sessions.{hooks_chosen, is_unfinished, is_reading};
-ghost use Rattle.legal_history.specs.Recorded.{past_of};
+ghost use Rattle.history.specs.Legal.{is_allowed};
+ghost use Rattle.legal_history.specs.Recorded.{past_of as past_recorded};
+ghost use Rattle.store_core.specs.View.{past_of, rules_of};
 ghost use Rattle.store_core.specs.Replay.{NoneIs, IsLeast, TakeAnswer, OpenAnswer};
 
 use crate::allowed::is_allowed;
@@ -31,8 +33,8 @@ fn hooks_chosen(point: &Point) -> &[Name]
 
 // The least session that is unfinished.
 fn least_unfinished(history: &LegalHistory) -> Option<u32>
-    ensures none { IfNone result (NoneIs (λ session. is_unfinished session (past_of history.now))) }
-    ensures some { IfSome result (IsLeast (λ session. is_unfinished session (past_of history.now))) }
+    ensures none { IfNone result (NoneIs (λ session. is_unfinished session (past_recorded history.now))) }
+    ensures some { IfSome result (IsLeast (λ session. is_unfinished session (past_recorded history.now))) }
 {
     let _entries = history.entries();
     for session in 0..history.session_count() {
@@ -45,8 +47,8 @@ fn least_unfinished(history: &LegalHistory) -> Option<u32>
 
 // The least reading that is unfinished.
 fn least_reading(history: &LegalHistory) -> Option<u32>
-    ensures none { IfNone result (NoneIs (λ reader. is_reading reader (past_of history.now))) }
-    ensures some { IfSome result (IsLeast (λ reader. is_reading reader (past_of history.now))) }
+    ensures none { IfNone result (NoneIs (λ reader. is_reading reader (past_recorded history.now))) }
+    ensures some { IfSome result (IsLeast (λ reader. is_reading reader (past_recorded history.now))) }
 {
     let _entries = history.entries();
     for reader in 0..history.reading_count() {
@@ -58,12 +60,22 @@ fn least_reading(history: &LegalHistory) -> Option<u32>
 }
 
 impl<const L: usize, const M: usize> State<L, M> {
+    // Whether the entry is allowed next.
+    fn allows(&self, alloc: Global, entry: &Entry) -> Result<bool, Memory>
+        ensures { IfOk result (λ allowed. allowed ≡ is_allowed (rules_of L M self.now) (past_of self.now) entry.now.author entry.now.point) }
+    {
+        let found = self.champions(alloc, hooks_chosen(&entry.point))?;
+        let journal = self.journal();
+        let allowed = is_allowed(journal, alloc, entry.author, &entry.point, found.as_slice())?;
+        Ok(allowed)
+    }
+
     // Adds the entry if it may follow, and answers whether it did.
     fn take(&mut self, alloc: Global, entry: Entry) -> Result<bool, Memory>
         ensures { TakeAnswer L M self.old self.new entry result }
     {
-        let found = self.champions(alloc, hooks_chosen(&entry.point))?;
-        if !is_allowed(self.journal(), alloc, entry.author, &entry.point, found.as_slice())? {
+        let allowed = self.allows(alloc, &entry)?;
+        if !allowed {
             return Ok(false);
         }
         let Entry { author, point } = entry;

@@ -7,7 +7,7 @@ ghost use Rattle.history.specs.Sessions.{is_pending};
 ghost use Rattle.history.specs.Legal.{are_uses};
 ghost use Rattle.history_laws.specs.EntryNumbers.{uses_listed};
 ghost use Rattle.legal_history.specs.Recorded.{past_of};
-ghost use Rattle.store_core.specs.Uses.{uses_at, may_lie_in};
+ghost use Rattle.store_core.specs.Uses.{uses_at, may_lie_in, are_listed};
 
 use history::{Entry, Point};
 use legal_history::LegalHistory;
@@ -97,27 +97,25 @@ fn may_lie_in(entries: &[Entry], session: u32, champions: &[u32], id: ContainerI
     (id.session == session && id.ordinal < 4_294_967_295) || is_listed(entries, champions, id)
 }
 
-fn all_may_lie_in(
-    entries: &[Entry],
-    session: u32,
-    champions: &[u32],
-    ids: &[ContainerId],
-) -> bool
+fn all_may_lie_in(entries: &[Entry], session: u32, champions: &[u32], ids: &[ContainerId]) -> bool
     ensures { result ≡ list_all (may_lie_in session champions.now (reverse entries.now)) ids.now }
 {
     ids.iter()
         .all(|id| may_lie_in(entries, session, champions, *id))
 }
 
-// Whether the containers are ascending, at most 4,096, and each is one that the session may use, whose choice is
-// pending.
+// Whether the containers are ascending, at most 4,096, and chunks of the session may lie in each.
+fn are_listed(entries: &[Entry], session: u32, champions: &[u32], uses: &[ContainerId]) -> bool
+    ensures { result ≡ are_listed session champions.now (reverse entries.now) uses.now }
+{
+    are_ascending(uses) && uses.len() <= 4096 && all_may_lie_in(entries, session, champions, uses)
+}
+
+// Whether a session whose choice is pending may use the containers.
 pub(crate) fn are_uses(history: &LegalHistory, session: u32, uses: &[ContainerId]) -> bool
     requires { is_pending session (past_of history.now) ≡ true }
     ensures { result ≡ are_uses session (past_of history.now) uses.now }
 {
     let entries = history.entries();
-    let champions = history.champion_numbers(session);
-    are_ascending(uses)
-        && uses.len() <= 4096
-        && all_may_lie_in(entries, session, champions, uses)
+    are_listed(entries, session, history.champion_numbers(session), uses)
 }
