@@ -20,10 +20,13 @@ type Row = (&'static str, Past, u32, Step<'static>);
 fn all_refused(rt: &impl process::Abort, alloc: Global, rows: &[Row]) -> Result<(), Fail> {
     for (shown, past, author, step) in rows {
         let mut entries = entries_of(alloc, *past)?;
-        let n = entries.len() as u32;
+        let n = entries.len();
+        if n > 100 {
+            return Err("a long history")?;
+        }
         add(alloc, &mut entries, *author, *step)?;
         let answer = refusal(alloc, LIMITS, entries)?;
-        assert_eq!(rt; answer, Some(Illegal(n)), "{shown}");
+        assert_eq!(rt; answer, Some(Illegal(n as u32)), "{shown}");
     }
     Ok(())
 }
