@@ -23,3 +23,20 @@ pub use kept::Kept;
 pub use reclaiming::{Removal, removal_object};
 pub use state::State;
 pub use values::{Choice, Looked, Stored};
+
+#[cfg(test)]
+mod checked_call_tests;
+#[cfg(test)]
+mod entry_rule_tests;
+#[cfg(test)]
+mod entry_tables;
+#[cfg(test)]
+mod history_tables;
+#[cfg(test)]
+mod limit_tests;
+#[cfg(test)]
+mod played_history_tests;
+#[cfg(test)]
+mod worked_history_tests;
+#[cfg(test)]
+mod worked_tables;
