@@ -1,11 +1,11 @@
 -- The containers of places are one list.
-use Rattle.std.proofs.Common.{◌≡◌, ◌⊎◌, ℕ, zero, suc, Bool, true, false, List, [], ◌∷◌, refl, sym, ap, ◌∙◌, subst, inl, inr, arith, length, ◌<◌, Contains}
+use Rattle.std.proofs.Common.{◌≡◌, zero, suc, true, false, List, [], ◌∷◌, refl, sym, ap, ◌∙◌, subst, inl, inr, arith, Contains}
 use Rattle.std.specs.List.{AllByRecursion}
 use Rattle.std.specs.List.Sorted.{IsStrictlySortedBy}
 use Rattle.std.specs.Cmp.{IsTotalOrder, then_total, on_total, nat_cmp_total}
 use Rattle.std.specs.Cmp.Lexicographic.{pointwise}
 use Rattle.std.specs.declared.cmp.Ordering.{Ordering}
-use Rattle.std.specs.declared.cmp.Ordering.TheVariants.{Less, Equal, Greater}
+use Rattle.std.specs.declared.cmp.Ordering.TheVariants.{Less}
 use Rattle.std.specs.Ordering.{ordering_reverse}
 use Rattle.std.proofs.lemmas.Map.Keys.{sorted_head, sorted_tail}
 use Rattle.ss_base.specs.declared.ids.ContainerId.{ContainerId}
@@ -49,8 +49,8 @@ module _ {K : Type 0} {R : K → K → Ordering} (o : IsTotalOrder R) where
       let second = sorted_head R y ys b in
       let heads : x ≡ y = same_heads x y xs ys first second (to x (inl refl)) (from y (inl refl)) in
       let rest : xs ≡ ys = same_sorted xs ys (sorted_tail R x xs a) (sorted_tail R y ys b)
-          (λ q h. behind_head x y xs ys heads first q h (to q (inr h)))
-          (λ q h. behind_head y x ys xs (sym heads) second q h (from q (inr h))) in
+      (λ q h. behind_head x y xs ys heads first q h (to q (inr h)))
+      (λ q h. behind_head y x ys xs (sym heads) second q h (from q (inr h))) in
       λ i. heads i ∷ rest i
 
 -- ---- containers

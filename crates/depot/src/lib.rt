@@ -14,3 +14,14 @@ mod tokens;
 pub use depot::Depot;
 pub use fault::{BackupFault, LoadFault, ReadFault, RestoreFault};
 pub use tokens::{Placed, Written};
+
+#[cfg(test)]
+mod test_chunks;
+#[cfg(test)]
+mod test_loads;
+#[cfg(test)]
+mod test_removals;
+#[cfg(test)]
+mod test_state;
+#[cfg(test)]
+mod test_stores;

@@ -1,5 +1,4 @@
-use Rattle.std.proofs.Common.{◌≡◌, true, false, List, subst, sym, ◌∙◌}
-use Rattle.ss_base.specs.declared.ids.ContainerId.{ContainerId}
+use Rattle.std.proofs.Common.{subst, sym, ◌∙◌}
 use Rattle.manifest_codec.specs.Containers.{AreContainers}
 use Rattle.depot.proofs.UsesLaws.{same_list, other_list}
 use Rattle.depot.proofs.loading.has_uses.Goals as goal

@@ -1,4 +1,3 @@
-use Rattle.std.proofs.Common.{◌≡◌}
 use Rattle.std.proofs.lemmas.Result.{err_from_is_err_and}
 use Rattle.outside.specs.Views.{shelf_view}
 use Rattle.depot.proofs.StoreLaws.{one_more_put, stopped_at}
