@@ -1,6 +1,5 @@
 // A shelf of containers and manifests.
 ghost use Rattle.std.specs.Prelude.{◌≡◌};
-ghost use Rattle.outside.specs.Views.{shelf_view};
 
 use outside::Shelf;
 
