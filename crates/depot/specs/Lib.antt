@@ -1,0 +1,14 @@
+pub use Rattle.outside.specs.Faults
+pub use Rattle.outside.specs.Shelf
+pub use Rattle.outside.specs.Views
+pub use Rattle.chunk_name.specs.Pieces
+pub use Rattle.manifest_codec.specs.Text
+pub use Rattle.manifest_codec.specs.Containers
+pub mod Seen
+pub mod Calls
+pub mod Trouble
+pub mod Loading
+pub mod Chunks
+pub mod Tokens
+pub mod Storing
+pub mod Removing
