@@ -3,10 +3,13 @@
 
 mod chunk_lines;
 mod command;
+mod fault_lines;
 mod feed_source;
 mod laws;
 mod line_printer;
+mod listing;
 mod names;
+mod opening;
 mod printing;
 mod run;
 mod segments;
@@ -16,5 +19,7 @@ pub use command::{Command, command_of};
 pub use laws::whole_fault_lines;
 pub use run::{Lane, run_solo};
 
+#[cfg(test)]
+mod journal_tests;
 #[cfg(test)]
 mod tests;
