@@ -1,6 +1,7 @@
 mod AdvancesLaws
 mod AnswerLaws
 mod CommandLaws
+mod EntryLineLaws
 mod FeedLaws
 mod ResultLaws
 mod SoFarLaws

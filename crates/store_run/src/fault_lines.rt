@@ -1,5 +1,5 @@
 // The lines of runs that end early.
-ghost use Rattle.std.specs.Prelude.{◌≡◌, ◌++◌, ◌∷◌, [], ℕ, List, OnOk, OnErr, string_bytes};
+ghost use Rattle.std.specs.Prelude.{◌≡◌, ◌++◌, ◌∷◌, [], ℕ, List, IfOk, OnOk, OnErr, string_bytes};
 ghost use Rattle.std.specs.Fmt.{decimal};
 ghost use Rattle.std.specs.Io.KnownBytes.{Appends};
 ghost use Rattle.outside.specs.Bytes.{AppendsFront};
@@ -10,6 +10,7 @@ ghost use Rattle.store_run.specs.Stop.{fault_line};
 
 use crate::stop::Stop;
 use outside::{Sink, Trouble, write_all};
+use ss_base::Memory;
 use std::alloc::Global;
 
 /// Prints the lines that wait and the fault line of a run that ends early, and answers its status.
@@ -82,6 +83,12 @@ fn write_numbered<O: Sink>(
         (words.now ++ decimal number ++ 10 ∷ [])) }
     ensures cause { HasCause (O.faults out.old) (O.faults out.new) result }
 {
-    let line = format!(in alloc; "{words}{number}\n")?;
+    let line = numbered_line(alloc, words, number)?;
     write_all(out, line.as_bytes())
+}
+
+fn numbered_line(alloc: Global, words: &str, number: u64) -> Result<String, Memory>
+    ensures { IfOk result (λ line. string_bytes line ≡ words.now ++ decimal number ++ 10 ∷ []) }
+{
+    Ok(format!(in alloc; "{words}{number}\n")?)
 }
