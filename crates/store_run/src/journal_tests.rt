@@ -154,6 +154,7 @@ fn one_line_for_each_entry(rt: HostRuntime) -> Result<(), Fail> {
 // The fourth entry stands from byte 203 to 216.
 #[test]
 fn journals_that_are_refused(rt: HostRuntime) -> Result<(), Fail> {
+    listed_or_refused();
     let alloc = rt.alloc();
     let rows = rows();
     let whole = journal(alloc, rows.split_at(4).0)?;

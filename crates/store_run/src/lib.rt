@@ -16,7 +16,7 @@ mod segments;
 mod stop;
 
 pub use command::{Command, command_of};
-pub use laws::whole_fault_lines;
+pub use laws::{listed_or_refused, whole_fault_lines};
 pub use run::{Lane, run_solo};
 
 #[cfg(test)]
