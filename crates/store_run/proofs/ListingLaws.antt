@@ -1,6 +1,6 @@
 -- What a status of `journal` tells.
-use Rattle.std.proofs.Common.{◌≡◌, ℕ, ◌+◌, ◌≤◌, List, [], ◌∷◌, ◌++◌, Some, Ok, Err, true, false, take, reverse, refl, sym, ap, ◌∙◌, subst, arith}
-use Rattle.std.specs.Prelude.{Result, IfSome, drop}
+use Rattle.std.proofs.Common.{◌≡◌, ℕ, ◌+◌, ◌≤◌, List, [], ◌∷◌, Some, Ok, Err, true, false, take, reverse, refl, sym, ap, ◌∙◌, subst, arith}
+use Rattle.std.specs.Prelude.{IfSome, drop}
 use Rattle.std.proofs.lemmas.List.{append-nil, reverse-append, take-append-drop}
 use Rattle.ss_base.specs.Search.{least}
 use Rattle.journal_entry.specs.declared.entry.Entry.{Entry}
@@ -12,12 +12,12 @@ use Rattle.history.proofs.LegalLaws.{is_legal-older}
 use Rattle.journal_file.specs.Header.{journal_name}
 use Rattle.journal_file.proofs.AnswerLaws.{not_bad, one_journal}
 use Rattle.store_core.specs.View.{StateView, rules_of}
-use Rattle.store_core.specs.Replay.{IsFirstIllegal, NoneIs, IsLeast, has_session, has_reading}
+use Rattle.store_core.specs.Replay.{IsFirstIllegal, IsLeast, has_session, has_reading}
 use Rattle.store_run.specs.declared.stop.Stop.{Stop}
 use Rattle.store_run.specs.declared.stop.Stop.TheVariants.{Usage, TooLong, Memory, AlreadyStore, SourceFault, DepotFault, NotStore, BadEntry, IllegalEntry, UnfinishedSession, UnfinishedReading}
 use Rattle.store_run.specs.EntryLines.{entry_lines}
 use Rattle.store_run.specs.Listing.{JournalAnswer, listed, not_opened, line_failed, line_wanted_memory}
-use Rattle.store_run.specs.Opening.{IsStore, IsJournalOf, IsRefused, IsOpening, store_limits}
+use Rattle.store_run.specs.Opening.{IsStore, IsJournalOf, IsRefused, IsOpening}
 use Rattle.store_run.specs.Run.{Refuses, told, sink_failed, memory_wanted}
 use Rattle.store_run.specs.Stop.{fault_line, status_of, sink_fault, least_status}
 

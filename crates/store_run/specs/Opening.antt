@@ -9,7 +9,7 @@ use Rattle.history.specs.declared.rules.Limits.{Limits}
 use Rattle.history.specs.Legal.{is_legal}
 use Rattle.journal_file.specs.Header.{journal_name}
 use Rattle.journal_file.specs.Journal.{IsJournal, HasNoHeader, IsBadAt}
-use Rattle.journal_file.specs.Answer.{IsAnswer, HasRead}
+use Rattle.journal_file.specs.Answer.{HasRead}
 use Rattle.journal_file.specs.Cause.{ReadCount}
 use Rattle.journal_file.specs.declared.fault.JournalFault.{JournalFault}
 use Rattle.journal_file.specs.declared.fault.JournalFault.TheVariants as journal

@@ -1,6 +1,4 @@
-use Rattle.std.proofs.Common.{◌≡◌, ◌+◌, ◌≤◌, ◌++◌, ◌∷◌, [], ℕ, List, length, refl, sym, ap, ◌∙◌, subst, arith}
-use Rattle.std.proofs.lemmas.Result.{on_ok_weaker, on_err_weaker}
-use Rattle.store_run.specs.EntryLines.{entry_lines}
+use Rattle.std.proofs.Common.{◌∙◌, arith}
 use Rattle.store_run.proofs.AdvancesLaws.{front-none, advances-cut}
 use Rattle.store_run.proofs.EntryLineLaws.{lines-first, lines-none, lines-cut, lines-step, advances-moves}
 use Rattle.store_run.proofs.ResultLaws.{on_err}
