@@ -136,6 +136,13 @@ fn list(
     Ok((status, out.bytes().to_vec(alloc)?))
 }
 
+fn cut(text: &[u8], len: usize) -> Result<&[u8], Fail> {
+    if text.len() < len {
+        return Err(Fail::from("a text that is too short"));
+    }
+    Ok(text.split_at(len).0)
+}
+
 #[test]
 fn one_line_for_each_entry(rt: HostRuntime) -> Result<(), Fail> {
     let alloc = rt.alloc();
@@ -171,10 +178,7 @@ fn journals_that_are_refused(rt: HostRuntime) -> Result<(), Fail> {
         (Some(b"SSJ1\x01\0\0"), "journal is not a store's\n"),
         (Some(b"SSJ1\x04\0\0\0"), "journal is not a store's\n"),
         (Some(b"SSJ1\x01\0\0\0\0"), "journal bad entry at byte 8\n"),
-        (
-            Some(whole.split_at(215).0),
-            "journal bad entry at byte 203\n",
-        ),
+        (Some(cut(&whole, 215)?), "journal bad entry at byte 203\n"),
         (Some(&no_champion), "journal illegal entry 5\n"),
         (Some(&without_end), "journal unfinished session 0\n"),
         (Some(&reading), "journal unfinished reading 0\n"),
