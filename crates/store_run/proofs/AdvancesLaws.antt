@@ -51,3 +51,7 @@ moves-advances old new waiting waiting' text before after lines move = record {
 pub front-more : (old new : Option (List ℕ)) (text more : List ℕ) → AppendsFront old new text → AppendsFront old new (text ++ more)
 front-more old new text more (front, back, split, written) =
     (front, back ++ more, ap (λ (l : List ℕ). l ++ more) split ∙ append_assoc front back more, written)
+
+-- nothing was written of a text yet
+pub front-none : (told : Option (List ℕ)) (text : List ℕ) → AppendsFront told told text
+front-none told text = ([], text, refl, Appends-none told)

@@ -1,5 +1,5 @@
 -- What is whole of a stream while its bytes come.
-use Rattle.std.proofs.Common.{◌≡◌, ℕ, ◌+◌, ◌≤◌, Bool, true, false, List, [], ◌∷◌, ◌++◌, length, refl, sym, ap, ◌∙◌, subst, arith}
+use Rattle.std.proofs.Common.{◌≡◌, ℕ, ◌+◌, Bool, true, false, List, [], ◌∷◌, ◌++◌, length, refl, sym, ap, ◌∙◌, subst, arith}
 use Rattle.std.proofs.lemmas.Bool.{cond-true, cond-false}
 use Rattle.std.proofs.lemmas.List.{append-nil, length-append}
 use Rattle.ss_base.specs.declared.profile.Profile.{Profile}
@@ -8,7 +8,7 @@ use Rattle.ss_base.specs.Profile.{numbers_of, AreSound}
 use Rattle.ss_base.specs.Search.{NonePasses}
 use Rattle.ss_base.proofs.SoundLaws.{AreSound-numbers_of}
 use Rattle.chunk_name.specs.Pieces.{name_of_bytes}
-use Rattle.tttd_chunker.specs.Cut.{first_cut, has_cut, cut}
+use Rattle.tttd_chunker.specs.Cut.{has_cut, cut}
 use Rattle.tttd_chunker.proofs.CutLaws.{cut-nil, cut-step}
 use Rattle.tttd_chunker.proofs.StreamLaws.{cut-last}
 use Rattle.segmenter.specs.Segments.{ends_behind, ends_at, segments}

@@ -4,10 +4,13 @@ pub use Rattle.outside.specs.Bytes
 pub use Rattle.outside.specs.Shelf
 pub mod Advances
 pub mod Command
+pub mod EntryLines
 pub mod Feed
 pub mod Halt
+pub mod Listing
 pub mod LinePrinter
 pub mod Lines
+pub mod Opening
 pub mod Output
 pub mod Run
 pub mod SegmentLines

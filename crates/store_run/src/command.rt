@@ -14,6 +14,8 @@ pub enum Command {
     Segments(Profile),
     /// `init P`: makes a store.
     Init(Profile),
+    /// `journal`: one line for each entry of a store's history.
+    Journal,
 }
 
 /// The command with these words. `None` comes exactly where no command has them.
@@ -21,14 +23,20 @@ pub fn command_of(words: &[String]) -> Option<Command>
     ensures found { IfSome result (λ command. texts words.now ≡ words_of command) }
     ensures none { IfNone result (IsUsage words.now) }
 {
-    let [verb, profile] = words else {
-        return None;
-    };
-    let profile = profile_of(profile.as_str())?;
-    match verb.as_str() {
-        "names" => Some(Command::Names(profile)),
-        "segments" => Some(Command::Segments(profile)),
-        "init" => Some(Command::Init(profile)),
+    match words {
+        [verb] => match verb.as_str() {
+            "journal" => Some(Command::Journal),
+            _ => None,
+        },
+        [verb, profile] => {
+            let profile = profile_of(profile.as_str())?;
+            match verb.as_str() {
+                "names" => Some(Command::Names(profile)),
+                "segments" => Some(Command::Segments(profile)),
+                "init" => Some(Command::Init(profile)),
+                _ => None,
+            }
+        }
         _ => None,
     }
 }

@@ -3,18 +3,23 @@
 
 mod chunk_lines;
 mod command;
+mod fault_lines;
 mod feed_source;
 mod laws;
 mod line_printer;
+mod listing;
 mod names;
+mod opening;
 mod printing;
 mod run;
 mod segments;
 mod stop;
 
 pub use command::{Command, command_of};
-pub use laws::whole_fault_lines;
+pub use laws::{listed_or_refused, whole_fault_lines};
 pub use run::{Lane, run_solo};
 
+#[cfg(test)]
+mod journal_tests;
 #[cfg(test)]
 mod tests;

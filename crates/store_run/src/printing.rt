@@ -57,9 +57,9 @@ pub fn print_rest<L: ChunkLines, O: Sink>(
     write_all(out, waiting)
 }
 
-// Adds text to what waits, and writes what waits once it is long enough. After an `Err` a front of both may have
-// been written.
-fn print_text<O: Sink>(out: &mut O, waiting: &mut Vec<u8>, text: &[u8]) -> Result<(), Trouble>
+/// Adds text to what waits, and writes what waits once it is long enough. After an `Err` a front of both may have
+/// been written.
+pub fn print_text<O: Sink>(out: &mut O, waiting: &mut Vec<u8>, text: &[u8]) -> Result<(), Trouble>
     ensures ok { OnOk result (Moves (O.written out.old)
         (O.written out.new) waiting.old.items waiting.new.items text.now) }
     ensures err { OnErr result (AppendsFront (O.written out.old) (O.written out.new)

@@ -1,26 +1,26 @@
 // A run of the program in one lane.
-ghost use Rattle.std.specs.Prelude.{◌≡◌, ◌≢◌, ◌≤◌, ◌++◌, [], OnOk, OnErr};
-ghost use Rattle.std.specs.Io.KnownBytes.{Appends};
-ghost use Rattle.outside.specs.Bytes.{AppendsFront};
-ghost use Rattle.outside.specs.Faults.{HasCause};
+ghost use Rattle.std.specs.Prelude.{◌≡◌, ◌≢◌, ◌≤◌, []};
 ghost use Rattle.outside.specs.Views.{source_view, sink_view, shelf_view};
 ghost use Rattle.ss_base.specs.declared.profile.Profile.{Profile as AnyProfile};
 ghost use Rattle.ss_base.specs.Profile.{numbers_of};
-ghost use Rattle.store_run.specs.declared.command.Command.TheVariants.{Names as names, Segments as segments, Init as init};
+ghost use Rattle.store_run.specs.declared.command.Command.TheVariants.{Names as names, Segments as segments, Init as init, Journal as journal};
 ghost use Rattle.store_run.specs.Command.{texts, words_of, IsUsage};
+ghost use Rattle.store_run.specs.Listing.{JournalAnswer};
 ghost use Rattle.store_run.specs.Output.{names_text, segments_text};
-ghost use Rattle.store_run.specs.Run.{Refuses, StreamAnswer, InitAnswer, UsageAnswer};
+ghost use Rattle.store_run.specs.Run.{StreamAnswer, InitAnswer, UsageAnswer};
 ghost use Rattle.store_run.specs.SoFar.{so_far, chunks_of};
 
 use crate::chunk_lines::ChunkLines;
 use crate::command::{Command, command_of};
+use crate::fault_lines::refuse;
 use crate::feed_source::feed;
 use crate::line_printer::LinePrinter;
+use crate::listing::list_journal;
 use crate::names::NameLines;
 use crate::segments::SegmentLines;
 use crate::stop::{Halt, Stop};
 use journal_file::{CreateFault, create};
-use outside::{Shelf, Sink, Source, Trouble, write_all};
+use outside::{Shelf, Sink, Source, Trouble};
 use ss_base::Profile;
 use std::alloc::Global;
 
@@ -34,7 +34,7 @@ pub struct Lane<F, K> {
 }
 
 /// Runs one command in one lane, and answers its status: 0 where all was done and printed, 1 where no command has
-/// the words, 4 where the depot failed, 7 where the source gave more than 2^40 bytes, 9 where the sink failed, 11
+/// the words, 4 where the depot failed, 6 where the journal is no store's, bad, illegal or unfinished, 7 where the source gave more than 2^40 bytes, 9 where the sink failed, 11
 /// where there is a store already, 12 where the source failed. Of several the least stands. It is 8 for want of
 /// memory where no other stands, and also where memory kept a line from being printed. A run that ends early prints
 /// its fault line behind the lines that were whole by then; both are whole but where the sink failed or a write
@@ -55,20 +55,25 @@ pub fn run_solo<S: Source, O: Sink, F: Shelf, K: Shelf>(
     ensures init { (profile : AnyProfile) → texts words.now ≡ words_of (init profile) → InitAnswer profile
         (shelf_view ⟦<K as Shelf>⟧ lane.old.depot) (shelf_view ⟦<K as Shelf>⟧ lane.new.depot)
         (sink_view ⟦<O as Sink>⟧ out.old) (sink_view ⟦<O as Sink>⟧ out.new) result }
+    ensures journal { texts words.now ≡ words_of journal → JournalAnswer
+        (shelf_view ⟦<K as Shelf>⟧ lane.old.depot) (shelf_view ⟦<K as Shelf>⟧ lane.new.depot)
+        (sink_view ⟦<O as Sink>⟧ out.old) (sink_view ⟦<O as Sink>⟧ out.new) result }
     ensures usage { IsUsage words.now → UsageAnswer (sink_view ⟦<O as Sink>⟧ out.old) (sink_view ⟦<O as Sink>⟧ out.new) result }
 
     // What a command has no part in stays as it was.
     ensures files { lane.new.files ≡ lane.old.files }
-    ensures depot { ((profile : AnyProfile) → texts words.now ≢ words_of
-        (init profile)) → lane.new.depot ≡ lane.old.depot }
+    ensures depot { ((profile : AnyProfile) → texts words.now ≢ words_of (init profile)) →
+        texts words.now ≢ words_of journal → lane.new.depot ≡ lane.old.depot }
     ensures unread { IsUsage words.now → script.new ≡ script.old }
     ensures init_unread { (profile : AnyProfile) → texts words.now ≡ words_of (init profile) → script.new ≡ script.old }
+    ensures journal_unread { texts words.now ≡ words_of journal → script.new ≡ script.old }
 {
     match command_of(words) {
         Some(Command::Names(profile)) => print_names(alloc, profile, script, out),
         Some(Command::Segments(profile)) => print_segments(alloc, profile, script, out),
-        Some(Command::Init(profile)) => make_store(profile, &mut lane.depot, out),
-        None => refuse(out, &[], Stop::Usage),
+        Some(Command::Init(profile)) => make_store(alloc, profile, &mut lane.depot, out),
+        Some(Command::Journal) => list_journal(alloc, &mut lane.depot, out),
+        None => refuse(alloc, out, &[], Stop::Usage),
     }
 }
 
@@ -105,16 +110,16 @@ fn print_segments<S: Source, O: Sink>(
 }
 
 // Makes the journal of a store.
-fn make_store<O: Sink, K: Shelf>(profile: Profile, depot: &mut K, out: &mut O) -> u8
+fn make_store<O: Sink, K: Shelf>(alloc: Global, profile: Profile, depot: &mut K, out: &mut O) -> u8
     ensures answer { InitAnswer profile
         (shelf_view ⟦<K as Shelf>⟧ depot.old) (shelf_view ⟦<K as Shelf>⟧ depot.new)
         (sink_view ⟦<O as Sink>⟧ out.old) (sink_view ⟦<O as Sink>⟧ out.new) result }
 {
     match create(depot, profile) {
         Ok(()) => 0,
-        Err(CreateFault::AlreadyStore) => refuse(out, &[], Stop::AlreadyStore),
-        Err(CreateFault::Shelf) => refuse(out, &[], Stop::DepotFault),
-        Err(CreateFault::Memory) => refuse(out, &[], Stop::Memory),
+        Err(CreateFault::AlreadyStore) => refuse(alloc, out, &[], Stop::AlreadyStore),
+        Err(CreateFault::Shelf) => refuse(alloc, out, &[], Stop::DepotFault),
+        Err(CreateFault::Memory) => refuse(alloc, out, &[], Stop::Memory),
     }
 }
 
@@ -133,32 +138,12 @@ fn print_stream<L: ChunkLines, S: Source, O: Sink>(
         (sink_view ⟦<O as Sink>⟧ out.old) (sink_view ⟦<O as Sink>⟧ out.new) result }
 {
     let Ok(mut printer) = LinePrinter::new(alloc, profile, lines) else {
-        return refuse(out, &[], Stop::Memory);
+        return refuse(alloc, out, &[], Stop::Memory);
     };
     match feed(alloc, script, MAX_STREAM, &mut printer, out) {
         Ok(()) => 0,
-        Err(Halt::Early(why)) => refuse(out, printer.waiting(), why),
+        Err(Halt::Early(why)) => refuse(alloc, out, printer.waiting(), why),
         Err(Halt::Unprinted(Trouble::Memory)) => 8,
         Err(Halt::Unprinted(Trouble::Fault)) => 9,
     }
-}
-
-// Prints the lines that wait and the fault line of a run that ends early, and answers its status.
-fn refuse<O: Sink>(out: &mut O, waiting: &[u8], why: Stop) -> u8
-    ensures { Refuses why waiting.now (sink_view ⟦<O as Sink>⟧ out.old) (sink_view ⟦<O as Sink>⟧ out.new) result }
-{
-    match write_both(out, waiting, why.line()) {
-        Ok(()) => why.status(),
-        Err(Trouble::Memory) => 8,
-        Err(Trouble::Fault) => why.status_beside_sink_fault(),
-    }
-}
-
-fn write_both<O: Sink>(out: &mut O, first: &[u8], second: &[u8]) -> Result<(), Trouble>
-    ensures ok { OnOk result (Appends (O.written out.old) (O.written out.new) (first.now ++ second.now)) }
-    ensures err { OnErr result (AppendsFront (O.written out.old) (O.written out.new) (first.now ++ second.now)) }
-    ensures cause { HasCause (O.faults out.old) (O.faults out.new) result }
-{
-    write_all(out, first)?;
-    write_all(out, second)
 }

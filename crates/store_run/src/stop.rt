@@ -1,6 +1,6 @@
 // Runs that end early.
 ghost use Rattle.std.specs.Prelude.{◌≡◌, [], ◌∷◌};
-ghost use Rattle.store_run.specs.Stop.{fault_line, status_of, sink_fault, least_status};
+ghost use Rattle.store_run.specs.Stop.{status_of, sink_fault, least_status};
 ghost use Rattle.store_run.specs.declared.stop.Stop.TheVariants.{Memory};
 ghost use Rattle.store_run.specs.declared.stop.Halt.TheVariants.{Early, Unprinted};
 
@@ -22,23 +22,19 @@ pub enum Stop {
     SourceFault,
     /// The depot failed.
     DepotFault,
+    /// There is no journal, or its first 8 bytes are no header.
+    NotStore,
+    /// From this place on, in bytes, no entry stands in the journal, or one that goes past what it may hold.
+    BadEntry(u64),
+    /// The entry with this number is the first that may not follow those before it.
+    IllegalEntry(u32),
+    /// The session with this number is the least that is unfinished.
+    UnfinishedSession(u32),
+    /// The reading with this number is the least that is unfinished, and no session is.
+    UnfinishedReading(u32),
 }
 
 impl Stop {
-    /// The fault line, with its LF.
-    pub fn line(self) -> &'static [u8]
-        ensures { result.now ≡ fault_line self }
-    {
-        match self {
-            Stop::Usage => b"usage\n",
-            Stop::TooLong => b"limit stream\n",
-            Stop::Memory => b"memory\n",
-            Stop::AlreadyStore => b"already a store\n",
-            Stop::SourceFault => b"source fault\n",
-            Stop::DepotFault => b"depot fault\n",
-        }
-    }
-
     /// The status that stands for it.
     pub fn status(self) -> u8
         ensures { result ≡ status_of self }
@@ -46,6 +42,11 @@ impl Stop {
         match self {
             Stop::Usage => 1,
             Stop::DepotFault => 4,
+            Stop::NotStore => 6,
+            Stop::BadEntry(_) => 6,
+            Stop::IllegalEntry(_) => 6,
+            Stop::UnfinishedSession(_) => 6,
+            Stop::UnfinishedReading(_) => 6,
             Stop::TooLong => 7,
             Stop::Memory => 8,
             Stop::AlreadyStore => 11,
@@ -61,6 +62,11 @@ impl Stop {
         match self {
             Stop::Usage => 1,
             Stop::DepotFault => 4,
+            Stop::NotStore => 6,
+            Stop::BadEntry(_) => 6,
+            Stop::IllegalEntry(_) => 6,
+            Stop::UnfinishedSession(_) => 6,
+            Stop::UnfinishedReading(_) => 6,
             Stop::TooLong => 7,
             Stop::Memory => 9,
             Stop::AlreadyStore => 9,

@@ -171,8 +171,14 @@ fn fault_in_mid_stream(rt: HostRuntime) -> Result<(), Fail> {
 #[test]
 fn words_of_no_command(rt: HostRuntime) -> Result<(), Fail> {
     let alloc = rt.alloc();
-    let rows: [&[&str]; 9] = [
+    let rows: [&[&str]; 15] = [
         &[],
+        &["journal", "tiny"],
+        &["Journal"],
+        &["stat"],
+        &["reclaim"],
+        &["delete", "zeros"],
+        &["backup", "in", "zeros"],
         &["segments"],
         &["init", "medium"],
         &["names"],
@@ -256,6 +262,11 @@ fn least_statuses_beside_a_sink_fault(rt: HostRuntime) {
     let rows = [
         (Stop::Usage, 1),
         (Stop::DepotFault, 4),
+        (Stop::NotStore, 6),
+        (Stop::BadEntry(8), 6),
+        (Stop::IllegalEntry(0), 6),
+        (Stop::UnfinishedSession(0), 6),
+        (Stop::UnfinishedReading(0), 6),
         (Stop::TooLong, 7),
         (Stop::Memory, 9),
         (Stop::AlreadyStore, 9),

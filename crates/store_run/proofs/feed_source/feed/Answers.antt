@@ -6,7 +6,6 @@ use Rattle.outside.specs.Views.{source_view, sink_view, Gives}
 use Rattle.store_run.specs.LinePrinter.{still}
 use Rattle.store_run.specs.SoFar.{Stage, at_end, so_far}
 use Rattle.store_run.specs.declared.stop.Stop.{Stop}
-use Rattle.store_run.specs.declared.stop.Halt.{Halt}
 use Rattle.store_run.specs.Feed.{IsHalted}
 use Rattle.store_run.proofs.FeedLaws.{under_way-start, under_way-read, under_way-printed, under_way-cut, under_way-end, halted-memory, halted-limit, halted-fault, consumes-kept}
 use Rattle.store_run.proofs.ResultLaws.{nothing, on_early_weaker, on_unprinted_weaker, counts_source-unread, counts_sink-after}

@@ -1,6 +1,5 @@
-use Rattle.std.proofs.Common.{refl, ap}
-use Rattle.std.specs.Prelude.{Err}
-use Rattle.outside.specs.Views.{ShelfView, shelf_view}
+use Rattle.std.proofs.Common.{refl}
+use Rattle.outside.specs.Views.{shelf_view}
 use Rattle.store_run.specs.declared.stop.Stop.TheVariants.{AlreadyStore, DepotFault, Memory}
 use Rattle.store_run.specs.Run.{not_made}
 use Rattle.store_run.proofs.StoreLaws.{same_view}

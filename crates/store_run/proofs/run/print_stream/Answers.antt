@@ -1,4 +1,4 @@
-use Rattle.std.proofs.Common.{◌≡◌, ◌++◌, [], List, ℕ, refl, subst, ap, sym}
+use Rattle.std.proofs.Common.{◌++◌, [], List, ℕ, refl, subst, sym}
 use Rattle.std.proofs.KnownBytes.{Consumes-nil}
 use Rattle.outside.specs.Views.{source_view, sink_view}
 use Rattle.ss_base.specs.Profile.{numbers_of}

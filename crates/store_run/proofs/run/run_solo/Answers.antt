@@ -4,7 +4,7 @@ use Rattle.outside.specs.Views.{source_view, sink_view, shelf_view}
 use Rattle.store_run.specs.Output.{names_text, segments_text}
 use Rattle.store_run.specs.Run.{StreamAnswer, InitAnswer}
 use Rattle.store_run.proofs.CommandLaws.{same_words}
-use Rattle.store_run.specs.declared.command.Command.TheVariants.{Names, Segments, Init}
+use Rattle.store_run.specs.declared.command.Command.TheVariants.{Names, Segments, Init, Journal}
 use Rattle.store_run.proofs.run.run_solo.Goals as goal
 
 pub returns-in-None-clause-names : goal.returns-in-None-clause-names
@@ -15,6 +15,9 @@ returns-in-None-clause-segments g c = λ profile asked. absurd (c.in-None.ensure
 
 pub returns-in-None-clause-init : goal.returns-in-None-clause-init
 returns-in-None-clause-init g c = λ profile asked. absurd (c.in-None.ensures.none (Init profile) asked)
+
+pub returns-in-None-clause-journal : goal.returns-in-None-clause-journal
+returns-in-None-clause-journal g c = λ asked. absurd (c.in-None.ensures.none Journal asked)
 
 pub returns-in-Some-Names-clause-names : goal.returns-in-Some-Names-clause-names
 returns-in-Some-Names-clause-names g c profile asked =

@@ -1,4 +1,4 @@
-use Rattle.std.proofs.Common.{◌≡◌, ◌∷◌, ◌++◌, ◌≤◌, [], List, ℕ, refl, sym, ap, ◌∙◌, subst, arith}
+use Rattle.std.proofs.Common.{◌∷◌, ◌++◌, ◌≤◌, [], List, ℕ, refl, sym, ap, ◌∙◌, subst}
 use Rattle.ss_base.specs.declared.profile.Profile.{Profile}
 use Rattle.ss_base.specs.Profile.{numbers_of}
 use Rattle.outside.specs.Bytes.{AppendsFront}
