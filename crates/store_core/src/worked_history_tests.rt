@@ -1,7 +1,7 @@
 // Histories in which champions, standing lists, pins and totals were worked out by hand, by calls and by replay.
 use crate::OpenFault;
 use crate::OpenFault::{Illegal, UnfinishedSession};
-use crate::entry_tables::Step::{Abort, Begin, Choose, Reclaim};
+use crate::entry_tables::Step::Choose;
 use crate::entry_tables::*;
 use crate::history_tables::Past::Backups;
 use crate::history_tables::*;
@@ -138,35 +138,5 @@ fn journals_that_are_refused(rt: HostRuntime) -> Result<(), Fail> {
     assert_eq!(rt; refusal(alloc, LIMITS, entries)?, Some(Illegal(5)));
     let entries = entries_of(alloc, Backups(3))?;
     assert_eq!(rt; refusal(alloc, LIMITS, entries)?, Some(UnfinishedSession(0)));
-    Ok(())
-}
-
-fn seventeen(alloc: Global) -> Result<Vec<Object>, Fail> {
-    let mut objects = Vec::new(alloc);
-    for ordinal in 0..17 {
-        objects.push(Container(ContainerId {
-            session: 0,
-            ordinal,
-        }))?;
-    }
-    Ok(objects)
-}
-
-// Sixteen objects are named at a time.
-#[test]
-fn seventeen_containers_in_two_reclaims(rt: HostRuntime) -> Result<(), Fail> {
-    let alloc = rt.alloc();
-    let objects = seventeen(alloc)?;
-    let [first @ .., last] = objects.as_slice() else {
-        return Err("seventeen objects")?;
-    };
-    let rows = [
-        (0, Begin("x", Some(0))),
-        (0, Abort(0, 17, 0)),
-        (1, Reclaim(first)),
-        (1, Reclaim(&[*last])),
-        (1, Reclaim(&[])),
-    ];
-    let _state = play::<8, 8>(&rt, alloc, LIMITS, &rows)?;
     Ok(())
 }
