@@ -17,11 +17,7 @@ use std::test::Fail;
 
 // Whether the session is unfinished and was begun by the author.
 #[tactic(auto, unfolding(history::specs::Legal::is_open_to))]
-fn is_open<const L: usize, const M: usize>(
-    state: &State<L, M>,
-    author: u32,
-    session: u32,
-) -> bool
+fn is_open<const L: usize, const M: usize>(state: &State<L, M>, author: u32, session: u32) -> bool
     ensures { result ≡ is_open_to author session (past_of state.now) }
 {
     let history = state.journal().history();
@@ -52,11 +48,7 @@ fn are_uses<const L: usize, const M: usize>(
 }
 
 #[tactic(auto, unfolding(history::specs::Legal::are_texts))]
-fn are_texts<const L: usize, const M: usize>(
-    state: &State<L, M>,
-    session: u32,
-    texts: u32,
-) -> bool
+fn are_texts<const L: usize, const M: usize>(state: &State<L, M>, session: u32, texts: u32) -> bool
     ensures { result ≡ are_texts session texts (past_of state.now) }
 {
     let commits = state.journal().next_manifest(session).seq;

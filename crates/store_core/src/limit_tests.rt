@@ -1,12 +1,14 @@
 // Limits, authors and profiles.
-use Wanted::{Added, Full};
 use crate::OpenFault::{Illegal, UnfinishedSession};
 use crate::checked_call_tests::call;
-use crate::entry_tables::Step::{Abort, Begin, Choose, Commit, Delete, Done, Finish, Look, Reclaim, Stat};
+use crate::entry_tables::Step::{
+    Abort, Begin, Choose, Commit, Delete, Done, Finish, Look, Reclaim, Stat,
+};
 use crate::entry_tables::*;
 use crate::history_tables::*;
 use crate::played_history_tests::{agrees, play, replays};
 use crate::{OpenFault, State};
+use Wanted::{Added, Full};
 use history::Limits;
 use ss_base::Object::Manifest;
 use ss_base::{Name, Profile};

@@ -33,7 +33,8 @@ fn ends_session(entry: &Entry, id: u32) -> bool {
 fn reader_of(entry: &Entry) -> Option<u32> {
     match &entry.point {
         Point::Look {
-            seen: Some(seen), ..
+            seen: Some(seen),
+            ..
         } => Some(seen.reader),
         _ => None,
     }

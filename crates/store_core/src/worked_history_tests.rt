@@ -137,6 +137,9 @@ fn journals_that_are_refused(rt: HostRuntime) -> Result<(), Fail> {
     add(alloc, &mut entries, 1, Choose(1, &[H, G], &[]))?;
     assert_eq!(rt; refusal(alloc, LIMITS, entries)?, Some(Illegal(5)));
     let entries = entries_of(alloc, Backups(3))?;
-    assert_eq!(rt; refusal(alloc, LIMITS, entries)?, Some(UnfinishedSession(0)));
+    assert_eq!(rt;
+        refusal(alloc, LIMITS, entries)?,
+        Some(UnfinishedSession(0))
+    );
     Ok(())
 }
