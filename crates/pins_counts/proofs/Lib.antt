@@ -1,3 +1,5 @@
 mod FactLaws
 mod LoopLaws
 mod WalkLaws
+mod AscendingLaws
+mod AwaitingLaws

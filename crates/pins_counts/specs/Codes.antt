@@ -8,6 +8,7 @@ use Rattle.ss_base.specs.declared.object.Object.{Object}
 use Rattle.ss_base.specs.declared.object.Object.TheVariants.{Container, Manifest}
 use Rattle.ss_base.specs.declared.ended.Ended.{Ended}
 use Rattle.pins_counts.specs.Counts.{Counted}
+use Rattle.pins_counts.specs.Waiting.{Awaited}
 
 abbrev pub numbers_from : Object → (ℕ × ℕ) ⊎ (ℕ × ℕ)
 numbers_from (Container c) = inl (c.session, c.ordinal)
@@ -33,3 +34,7 @@ abbrev pub counted_code : Coded Counted
 counted_code =
     code_by _ (coded× (coded× (map.code object_code coded_ℕ) (coded_list (coded_option ended_code))) (coded× (set.code object_code) coded_ℕ))
     (λ c. ((c.numbers, c.sessions), (c.gone, c.room))) (λ p. record { numbers = p.0.0; sessions = p.0.1; gone = p.1.0; room = p.1.1 }) (λ _. refl)
+
+-- awaited sessions are stored as their numbers and the bound
+abbrev pub awaited_code : Coded Awaited
+awaited_code = code_by _ (coded× (coded_list coded_ℕ) coded_ℕ) (λ a. (a.sessions, a.below)) (λ p. record { sessions = p.0; below = p.1 }) (λ _. refl)

@@ -1,5 +1,5 @@
 // How often each object is needed, and which objects nothing needs.
-ghost use Rattle.std.specs.Prelude.{◌≡◌, ℕ, ◌+◌, ◌-◌, ◌^◌, ◌<◌, ◌≤◌, ◌||◌, ◌∷◌, ◌++◌, [], IsTrue, OnOk, OnErr, IfOk, All, take, filter, length, slice_get, slice_set, vec_len};
+ghost use Rattle.std.specs.Prelude.{◌≡◌, ℕ, ◌+◌, ◌-◌, ◌^◌, ◌<◌, ◌≤◌, ◌||◌, ◌∷◌, ◌++◌, [], IsTrue, OnOk, OnErr, IfOk, All, take, filter, slice_get, slice_set, vec_len, None, Some, MatchOption};
 ghost use Rattle.std.specs.List.{IsDistinct};
 ghost use Rattle.std.specs.FinMap as map;
 ghost use Rattle.std.specs.FinSet as set;
@@ -7,43 +7,43 @@ ghost use Rattle.std.specs.Ordering.{eq_by_cmp};
 ghost use Rattle.ss_base.specs.declared.object.Object.{Object as Stored};
 ghost use Rattle.ss_base.specs.declared.object.Object.TheVariants.{Container, Manifest};
 ghost use Rattle.ss_base.specs.Ids.{same_object, has_object};
-ghost use Rattle.ss_base.specs.KnownObjects.{numbered, objects_of};
+ghost use Rattle.ss_base.specs.KnownObjects.{objects_of};
 ghost use Rattle.ss_base.specs.Order.{object_cmp};
 ghost use Rattle.pins_counts.specs.Counts.{number, use_number, hold_number, is_ready, is_gone, one_if, containers, object_of, count_of, is_idle, dead_objects};
+ghost use Rattle.pins_counts.specs.Waiting.{IsQuiet};
 
-use crate::fact::{Fact, fact_of, make_fact, set_fact};
+use crate::awaiting::{await_dead, await_session, pass_quiet};
 use crate::kind::Kind;
-use crate::run::{after_gone, set_gone};
-use ss_base::{ContainerId, Ended, ManifestId, Memory, Object};
+use crate::tally::Tally;
+use crate::waiting::Waiting;
+use ss_base::{ContainerId, ManifestId, Memory, Object};
 use std::alloc::Global;
-use std::collections::BTreeMap;
 use std::marker::Model;
-
-const MAX_SESSIONS: usize = 4_294_967_294;
 
 /// How often each object is needed, which sessions are closed, and which objects are gone. Contracts see a number per
 /// object, a list with what each closed session had, the set of what is gone, and how many sessions may be added. An
 /// object without a number of its own has 0.
 #[derive(Drop)]
 pub struct Counts {
-    sessions: Vec<Option<Ended>>,
-    room: usize,
-    facts: BTreeMap<Object, Fact>,
+    tally: Tally,
+    // The closed sessions that may have dead containers, and those that may have dead manifests.
+    containers: Waiting,
+    manifests: Waiting,
 }
 
 impl Model for Counts {
-    ghost use Rattle.std.specs.Prelude.{◌+◌, ◌≤◌, ◌<◌, ◌^◌, vec_len, vec_capacity};
     ghost use Rattle.pins_counts.specs.Counts.{Counted};
     ghost use Rattle.pins_counts.specs.Codes.{counted_code};
-    ghost use Rattle.pins_counts.specs.Facts.{numbers_of, gone_of, IsSound};
+    ghost use Rattle.pins_counts.specs.Waiting.{IsAwaited};
+    ghost use Rattle.pins_counts.specs.declared.kind.Kind.TheVariants.{Containers, Manifests};
 
     ghost Value = { Counted };
 
     ghost coded = { counted_code };
 
-    ghost view = { λ c. record { numbers = numbers_of c.facts.entries; sessions = c.sessions.items; gone = gone_of c.facts.entries; room = c.room } };
+    ghost view = { λ c. c.tally };
 
-    ghost invariant = { λ c. (vec_len c.sessions + c.room ≤ vec_capacity c.sessions) × (vec_len c.sessions + c.room < 2 ^ 32) × IsSound c.facts };
+    ghost invariant = { λ c. IsAwaited Containers c.tally c.containers × IsAwaited Manifests c.tally c.manifests };
 }
 
 impl Counts {
@@ -52,9 +52,9 @@ impl Counts {
         ensures { result ≡ record { numbers = map.empty; sessions = []; gone = set.empty; room = 0 } }
     {
         Counts {
-            sessions: Vec::new(alloc),
-            room: 0,
-            facts: BTreeMap::new(alloc),
+            tally: Tally::new(alloc),
+            containers: Waiting::new(alloc),
+            manifests: Waiting::new(alloc),
         }
     }
 
@@ -64,12 +64,11 @@ impl Counts {
         ensures kept { self.old.room ≤ self.new.room }
         ensures rest { self.new ≡ record self.old { room = self.new.room } }
     {
-        if self.room == 0 {
-            if self.sessions.len() >= MAX_SESSIONS {
-                return Err(Memory);
-            }
-            self.sessions.try_reserve(1)?;
-            self.room = 1;
+        if self.tally.room() == 0 {
+            let below = self.tally.len() + 1;
+            self.containers.make_room(below)?;
+            self.manifests.make_room(below)?;
+            self.tally.room_session()?;
         }
         Ok(())
     }
@@ -79,8 +78,7 @@ impl Counts {
         requires { 0 < self.old.room }
         ensures { self.new ≡ record self.old { sessions = self.old.sessions ++ None ∷ []; room = self.old.room - 1 } }
     {
-        let _ = self.sessions.push(None);
-        self.room -= 1;
+        self.tally.add_session();
     }
 
     /// Closes a session: its containers and its manifests' texts are those below the two counts.
@@ -88,7 +86,9 @@ impl Counts {
         requires { slice_get self.old.sessions session ≡ Some None }
         ensures { self.new ≡ record self.old { sessions = slice_set self.old.sessions session (Some (record { containers = containers; texts = texts })) } }
     {
-        self.sessions[session as usize] = Some(Ended { containers, texts });
+        self.tally.close(session, containers, texts);
+        await_dead(&self.tally, Kind::Containers, session, &mut self.containers);
+        await_dead(&self.tally, Kind::Manifests, session, &mut self.manifests);
     }
 
     /// Makes room for the numbers of these containers and of the manifest. What was ready stays so, also after want of
@@ -194,8 +194,7 @@ impl Counts {
         ensures err { OnErr result (self.new ≡ self.old) }
         ensures rest { self.new ≡ record self.old { numbers = self.new.numbers } }
     {
-        make_fact(&mut self.facts, object)?;
-        Ok(())
+        self.tally.make_ready(object)
     }
 
     // Adds one to the object's number.
@@ -206,15 +205,7 @@ impl Counts {
         ensures ready { (q : Stored) → is_ready self.new q ≡ is_ready self.old q }
         ensures rest { self.new ≡ record self.old { numbers = self.new.numbers } }
     {
-        let fact = fact_of(&self.facts, object);
-        set_fact(
-            &mut self.facts,
-            object,
-            Fact {
-                number: fact.number + 1,
-                ..fact
-            },
-        );
+        self.tally.add_one(object);
     }
 
     // Takes one from the object's number.
@@ -225,15 +216,17 @@ impl Counts {
         ensures ready { (q : Stored) → is_ready self.new q ≡ is_ready self.old q }
         ensures rest { self.new ≡ record self.old { numbers = self.new.numbers } }
     {
-        let fact = fact_of(&self.facts, object);
-        set_fact(
-            &mut self.facts,
-            object,
-            Fact {
-                number: fact.number - 1,
-                ..fact
-            },
-        );
+        let left = self.tally.take_one(object);
+        if left == 0 {
+            match object {
+                Object::Container(id) => {
+                    await_session(&self.tally, id.session, &mut self.containers)
+                }
+                Object::Manifest(id) => {
+                    await_session(&self.tally, id.session, &mut self.manifests)
+                }
+            }
+        }
     }
 
     /// Adds these objects, whose numbers have room, to those that are gone.
@@ -245,6 +238,8 @@ impl Counts {
         for object in objects {
             self.mark(*object);
         }
+        pass_quiet(&self.tally, Kind::Containers, &mut self.containers);
+        pass_quiet(&self.tally, Kind::Manifests, &mut self.manifests);
     }
 
     fn mark(&mut self, object: Object)
@@ -252,24 +247,13 @@ impl Counts {
         ensures gone { (q : Stored) → is_gone self.new q ≡ (is_gone self.old q || same_object q object) }
         ensures rest { self.new ≡ record self.old { gone = self.new.gone } }
     {
-        set_gone(&mut self.facts, object);
+        self.tally.mark(object);
     }
 
     pub(crate) fn number_of(&self, object: Object) -> u32
         ensures { result ≡ number self.now object }
     {
-        fact_of(&self.facts, object).number
-    }
-
-    // Whether the object isn't gone and has the number 0.
-    fn is_idle(&self, object: Object) -> bool
-        ensures { result ≡ is_idle self.now object }
-    {
-        let fact = fact_of(&self.facts, object);
-        match fact.gone {
-            Some(_) => false,
-            None => fact.number == 0,
-        }
+        self.tally.number_of(object)
     }
 
     // Adds what is dead of one kind, until `limit` are found.
@@ -277,34 +261,26 @@ impl Counts {
         requires { vec_len found.old ≤ limit }
         ensures { OnOk result (found.new.items ≡ take limit (found.old.items ++ filter (is_idle self.now) (objects_of (object_of kind) (count_of kind) 0 self.now.sessions))) }
     {
-        for (session, ended) in self.sessions.iter().enumerate() {
-            if let Some(ended) = ended {
-                self.add_dead_of(kind, session as u32, kind.count(*ended), limit, found)?;
+        let mut next = 0;
+        while found.len() < limit {
+            match self.next_waiting(kind, next) {
+                None => return Ok(()),
+                Some(session) => {
+                    self.tally.add_dead_in(kind, session, limit, found)?;
+                    next = session as usize + 1;
+                }
             }
         }
         Ok(())
     }
 
-    // Adds what is dead of the objects of one kind and session below `count`, until `limit` are found.
-    fn add_dead_of(
-        &self,
-        kind: Kind,
-        session: u32,
-        count: u32,
-        limit: usize,
-        found: &mut Vec<Object>,
-    ) -> Result<(), Memory>
-        requires { vec_len found.old ≤ limit }
-        ensures { OnOk result (found.new.items ≡ take limit (found.old.items ++ filter (is_idle self.now) (numbered (object_of kind session) 0 count))) }
+    // The first session from one on that may have a dead object of the kind.
+    fn next_waiting(&self, kind: Kind, from: usize) -> Option<u32>
+        ensures { MatchOption result ((q : ℕ) → from ≤ q → IsQuiet kind self.now q) (λ s. (from ≤ s) × ((q : ℕ) → from ≤ q → q < s → IsQuiet kind self.now q)) }
     {
-        let mut next = 0;
-        while next < count && found.len() < limit {
-            let object = kind.object(session, next);
-            if self.is_idle(object) {
-                found.push(object)?;
-            }
-            next = after_gone(&self.facts, object, count);
+        match kind {
+            Kind::Containers => self.containers.first_from(from),
+            Kind::Manifests => self.manifests.first_from(from),
         }
-        Ok(())
     }
 }

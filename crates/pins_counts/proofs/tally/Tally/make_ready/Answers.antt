@@ -3,7 +3,7 @@ use Rattle.ss_base.specs.Ids.{same_object}
 use Rattle.pins_counts.specs.Counts.{number, is_ready}
 use Rattle.pins_counts.specs.Facts.{numbers_of, fact_at}
 use Rattle.pins_counts.proofs.FactLaws.{sound_kept, sound_same, run_of_nothing, ready_made, number_kept, gone_kept, number_of_nothing, gone_of_nothing}
-use Rattle.pins_counts.proofs.counts.Counts.make_ready.Goals as goal
+use Rattle.pins_counts.proofs.tally.Tally.make_ready.Goals as goal
 
 pub returns-clause-ready : goal.returns-clause-ready
 returns-clause-ready c q =

@@ -4,8 +4,8 @@ use Rattle.pins_counts.specs.Counts.{number, is_gone, object_of, is_idle}
 use Rattle.pins_counts.specs.Facts.{place_of, at_place, gone_in, fact_at}
 use Rattle.pins_counts.proofs.FactLaws.{gone_seen_at}
 use Rattle.pins_counts.proofs.WalkLaws.{Finds, first_of, finds_one, finds_none, passed_to, place_in, own_place}
-use Rattle.pins_counts.proofs.counts.Counts.add_dead_of.Goals as goal
-use Rattle.pins_counts.proofs.counts.Counts.add_dead_of.Goals.{then-is_idle+in_ok-push, else-is_idle}
+use Rattle.pins_counts.proofs.tally.Tally.add_dead_of.Goals as goal
+use Rattle.pins_counts.proofs.tally.Tally.add_dead_of.Goals.{then-is_idle+in_ok-push, else-is_idle}
 
 pub loop-next-preserved : goal.loop-next-preserved
 loop-next-preserved c =

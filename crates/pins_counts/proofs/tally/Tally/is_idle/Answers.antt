@@ -1,7 +1,7 @@
 use Rattle.std.proofs.Common.{sym, ◌∙◌, ap, not, ◌&&◌, ◌==◌, is_some}
 use Rattle.pins_counts.specs.Counts.{is_idle}
 use Rattle.pins_counts.proofs.FactLaws.{number_here, gone_here}
-use Rattle.pins_counts.proofs.counts.Counts.is_idle.Goals as goal
+use Rattle.pins_counts.proofs.tally.Tally.is_idle.Goals as goal
 
 pub returns-in-Some : goal.returns-in-Some
 returns-in-Some c =

@@ -3,7 +3,7 @@ use Rattle.ss_base.specs.Ids.{same_object}
 use Rattle.pins_counts.specs.Counts.{is_ready, is_gone}
 use Rattle.pins_counts.specs.Facts.{gone_of}
 use Rattle.pins_counts.proofs.FactLaws.{room_for, numbers_marked, gone_marked}
-use Rattle.pins_counts.proofs.counts.Counts.mark.Goals as goal
+use Rattle.pins_counts.proofs.tally.Tally.mark.Goals as goal
 
 pub set_gone-requires-clause-room : goal.set_gone-requires-clause-room
 set_gone-requires-clause-room c = room_for c.self.inside.facts c.args.object (ap (λ v. is_ready v c.args.object) c.self.view_is ∙ c.requires)

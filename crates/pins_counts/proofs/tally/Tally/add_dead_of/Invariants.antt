@@ -2,7 +2,7 @@ use Rattle.std.proofs.Common.{◌≤◌, ◌-◌, ◌++◌, take, filter}
 use Rattle.ss_base.specs.KnownObjects.{numbered}
 use Rattle.pins_counts.specs.Counts.{object_of, is_idle}
 use Rattle.pins_counts.proofs.WalkLaws.{Finds}
-use Rattle.pins_counts.proofs.counts.Counts.add_dead_of.Given as goal
+use Rattle.pins_counts.proofs.tally.Tally.add_dead_of.Given as goal
 
 abbrev pub invariant-loop-next : goal.invariant-loop-next
 invariant-loop-next l =

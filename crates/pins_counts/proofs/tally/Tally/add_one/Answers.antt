@@ -1,11 +1,12 @@
-use Rattle.std.proofs.Common.{rules, ◌≡◌, sym, ◌∙◌, ap, ◌+◌, ◌<◌, ◌-◌, subst, arith}
+use Rattle.std.proofs.Common.{rules, ◌∙◌, ap, ◌+◌, cond}
+use Rattle.ss_base.specs.Ids.{same_object}
 use Rattle.pins_counts.specs.Counts.{number, is_ready}
 use Rattle.pins_counts.specs.Facts.{numbers_of, is_gone_fact, fact_at}
-use Rattle.pins_counts.proofs.FactLaws.{sound_kept, run_of_nothing, number_taken, ready_kept, gone_kept, room_for, number_here, number_of_nothing, gone_of_nothing}
-use Rattle.pins_counts.proofs.counts.Counts.take_one.Goals as goal
+use Rattle.pins_counts.proofs.FactLaws.{sound_kept, run_of_nothing, number_added, ready_kept, gone_kept, room_for, number_here, number_of_nothing, gone_of_nothing}
+use Rattle.pins_counts.proofs.tally.Tally.add_one.Goals as goal
 
-pub overflow_sub-fact : goal.overflow_sub-fact
-overflow_sub-fact c =
+pub overflow_add-fact : goal.overflow_add-fact
+overflow_add-fact c =
     let number_is = number_here c.self.inside.facts c.args.object c.fact_of-fact.result c.fact_of-fact.ensures ∙ ap (λ v. number v c.args.object) c.self.view_is in
     search rules
 
@@ -16,11 +17,8 @@ pub returns-clause-numbers : goal.returns-clause-numbers
 returns-clause-numbers c q =
     let m = c.self.inside.facts in
     let k = c.args.object in
-    let n = c.fact_of-fact.result.number in
-    let above : 0 < n = subst (λ x. 0 < x) (sym (number_here m k c.fact_of-fact.result c.fact_of-fact.ensures ∙ ap (λ v. number v k) c.self.view_is)) c.requires.above in
-    let less : n ≡ (n - 1) + 1 = omega arith in
-    let fell = sym (number_of_nothing (fact_at m k)) ∙ ap (λ f. f.number) (sym c.fact_of-fact.ensures) ∙ less in
-    ap (λ v. number v q) (sym c.self.view_is) ∙ number_taken m c.set_fact.new.facts k _ c.set_fact.ensures fell q
+    let more = ap (λ f. f.number + 1) c.fact_of-fact.ensures ∙ ap (λ n. n + 1) (number_of_nothing (fact_at m k)) in
+    number_added m c.set_fact.new.facts k _ c.set_fact.ensures more q ∙ ap (λ v. number v q + cond (same_object q k) 1 0) c.self.view_is
 
 pub returns-clause-ready : goal.returns-clause-ready
 returns-clause-ready c q =
