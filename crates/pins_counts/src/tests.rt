@@ -211,3 +211,36 @@ fn marked_where_there_is_room(rt: HostRuntime) -> Result<(), Fail> {
     );
     Ok(())
 }
+
+// Three closed sessions, of which the first needs its container and manifest, and the second its container.
+fn three_sessions(rt: &impl Abort, counts: &mut Counts) -> Result<(), Memory>
+    requires { counts.old.sessions ≡ [] }
+{
+    open(counts)?;
+    commit(rt, counts, M00, C00)?;
+    counts.close(0, 1, 1);
+    open(counts)?;
+    add_use(rt, counts, C10)?;
+    counts.close(1, 1, 1);
+    open(counts)?;
+    counts.close(2, 1, 1);
+    Ok(())
+}
+
+// What was needed while other objects were reclaimed is found again once nothing needs it, in the order of all.
+#[test]
+fn dead_after_others_were_reclaimed(rt: HostRuntime) -> Result<(), Fail> {
+    let alloc = rt.alloc();
+    let mut counts = Counts::new(alloc);
+    three_sessions(&rt, &mut counts)?;
+    let others = [container(2, 0), manifest(1, 0), manifest(2, 0)];
+    assert_eq!(rt; counts.dead(alloc, 16)?.as_slice(), others.as_slice());
+    counts.mark_gone(&others)?;
+    assert!(rt; counts.dead(alloc, 16)?.is_empty());
+    drop_use(&rt, &mut counts, C10)?;
+    drop_use(&rt, &mut counts, C00)?;
+    let_go(&rt, &mut counts, M00)?;
+    let all = [container(0, 0), container(1, 0), manifest(0, 0)];
+    assert_eq!(rt; counts.dead(alloc, 16)?.as_slice(), all.as_slice());
+    Ok(())
+}
