@@ -1,5 +1,4 @@
 // One call on the shelf, on an object by its name.
-ghost use Rattle.std.specs.Prelude.{◌≡◌};
 ghost use Rattle.ss_base.specs.ObjectName.{object_text};
 ghost use Rattle.outside.specs.Views.{shelf_view};
 ghost use Rattle.depot.specs.Calls.{ReadAnswer, CreateAnswer, AppendAnswer, EraseAnswer};

@@ -34,8 +34,6 @@ pub use standing_scan::standing;
 pub use totals_scan::totals;
 
 #[cfg(test)]
-mod entry_rule_tests;
-#[cfg(test)]
 mod entry_tables;
 #[cfg(test)]
 mod scan_tests;

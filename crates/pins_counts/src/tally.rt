@@ -1,5 +1,5 @@
 // The numbers, the sessions and what is gone.
-ghost use Rattle.std.specs.Prelude.{◌≡◌, ℕ, ◌+◌, ◌-◌, ◌<◌, ◌≤◌, ◌^◌, ◌||◌, ◌∷◌, ◌++◌, [], None, Some, false, IsTrue, OnOk, OnErr, IfOk, take, filter, length, slice_get, slice_set, vec_len};
+ghost use Rattle.std.specs.Prelude.{◌≡◌, ℕ, ◌+◌, ◌-◌, ◌<◌, ◌≤◌, ◌^◌, ◌||◌, ◌∷◌, ◌++◌, [], None, Some, false, IsTrue, OnOk, OnErr, take, filter, length, slice_get, slice_set, vec_len};
 ghost use Rattle.std.specs.FinMap as map;
 ghost use Rattle.std.specs.FinSet as set;
 ghost use Rattle.ss_base.specs.declared.object.Object.{Object as Stored};

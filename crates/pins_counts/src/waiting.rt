@@ -1,5 +1,5 @@
 // Sessions that may have dead objects of one kind.
-ghost use Rattle.std.specs.Prelude.{◌≡◌, ℕ, ◌+◌, ◌≤◌, ◌<◌, ◌==◌, ◌||◌, true, false, [], OnOk, MatchOption, drop, length, get_or, slice_get};
+ghost use Rattle.std.specs.Prelude.{◌≡◌, ℕ, ◌+◌, ◌≤◌, ◌<◌, ◌==◌, ◌||◌, true, false, [], OnOk, MatchOption, drop, get_or, slice_get};
 ghost use Rattle.std.specs.VecDeque.{deque_len};
 ghost use Rattle.pins_counts.specs.Waiting.{awaits, IsAscending};
 

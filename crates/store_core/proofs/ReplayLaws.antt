@@ -2,9 +2,6 @@
 use Rattle.std.proofs.Common.{◌≡◌, ◌⊎◌, leb, ℕ, ◌+◌, ◌<◌, ◌≤◌, Bool, true, false, ◌&&◌, List, [], ◌∷◌, ◌++◌, length, take, get_or, reverse, Ok, Err, refl, sym, ap, ◌∙◌, subst, inl, inr, arith}
 use Rattle.std.proofs.lemmas.Bool.{false_from_ne_true, and_parts, cases_Bool, leb-true, leb-false}
 use Rattle.std.proofs.lemmas.List.{take_more, take_all, length-take, length-reverse, reverse-append}
-use Rattle.ss_base.specs.declared.profile.Profile.{Profile}
-use Rattle.ss_base.specs.declared.profile.Profile.TheVariants.{Tiny, Small, Large}
-use Rattle.ss_base.specs.Profile.{numbers_of}
 use Rattle.journal_entry.specs.declared.entry.Entry.{Entry}
 use Rattle.history.specs.declared.rules.Rules.{Rules}
 use Rattle.history.specs.Sessions.{is_unfinished, is_reading, session_count, reading_count}
@@ -105,8 +102,3 @@ below_or n k = elim (cases_Bool (leb k n)) [
   | inl is ↦ inr (leb-true k n is)
   | inr is ↦ inl (leb-false k n is)
 ]
-
-pub few_bits : (profile : Profile) → (numbers_of profile).bits ≤ 32
-few_bits Tiny = omega arith
-few_bits Small = omega arith
-few_bits Large = omega arith

@@ -25,9 +25,6 @@ all_of : (a b : Bool) → b ≡ true → (a && b) ≡ a
 all_of true b is = is
 all_of false b is = refl
 
-pub none_seen : (seen : List Name) → seen ≡ [] → HasSeen seen []
-none_seen seen none = record { same = λ name. ap (has_name name) none }
-
 -- what a set has after a name was put into it
 pub seen_more : (seen new names : List Name) (name : Name) → HasSeen seen names → ((q : Name) → list_any (is_at (cmp-value.it q)) new ≡ cond (is_at (cmp-value.it name) q) true (list_any (is_at (cmp-value.it q)) seen)) → HasSeen new (name ∷ names)
 unfolding has_name

@@ -78,9 +78,6 @@ one_listed rules id c past n legal at =
 
 -- ---- what a session with a pending choice may use
 
-some_list : {X : Type 0} (x : X) (xs : List X) → [] ≡ x ∷ xs → ⊥
-some_list x xs e = cc
-
 any_listed : (rules : Rules) (past : List Entry) (c : ContainerId) (numbers : List ℕ) (ids : List ManifestId) → is_legal rules past ≡ true → CommitThese numbers ids past → list_any (λ n. has_container c (uses_at past n)) numbers ≡ is_use_of_any ids past c
 unfolding CommitThese is_use_of_any
 any_listed rules past c [] [] legal these = refl

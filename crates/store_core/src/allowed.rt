@@ -15,7 +15,7 @@ ghost use Rattle.legal_history.specs.Recorded.{past_of};
 use crate::hooks::are_hooks;
 use crate::journal::Journal;
 use crate::uses::are_uses;
-use history::{Point, Seen, Totals, are_counts};
+use history::{Items, Point, Seen, Totals, are_counts};
 use legal_history::LegalHistory;
 use ss_base::{ManifestId, Memory, Name, Object};
 use std::alloc::Global;
@@ -30,10 +30,8 @@ fn same_object(a: &Object, b: &Object) -> bool
     ensures { result ≡ same_object a.now b.now }
 {
     match (a, b) {
-        (Object::Container(a), Object::Container(b)) => {
-            a.session == b.session && a.ordinal == b.ordinal
-        }
-        (Object::Manifest(a), Object::Manifest(b)) => a.session == b.session && a.seq == b.seq,
+        (Object::Container(a), Object::Container(b)) => a == b,
+        (Object::Manifest(a), Object::Manifest(b)) => a == b,
         _ => false,
     }
 }
@@ -86,8 +84,8 @@ fn is_choice_allowed<const L: usize>(
     alloc: Global,
     author: u32,
     session: u32,
-    hooks: &[Name],
-    champions: &[ManifestId],
+    hooks: &Items<Name>,
+    champions: &Items<ManifestId>,
     found: &[ManifestId],
 ) -> Result<bool, Memory>
     requires bits { journal.now.rules.bits ≤ 32 }
@@ -95,12 +93,12 @@ fn is_choice_allowed<const L: usize>(
     ensures { IfOk result (λ allowed. allowed ≡ is_allowed journal.now.rules (past_of journal.now) author (ChoosePoint session hooks.now champions.now)) }
 {
     let history = journal.history();
-    let fine = are_hooks(alloc, history.rules().bits, hooks)?;
+    let fine = are_hooks(alloc, history.rules().bits, hooks.as_slice())?;
     Ok(
         is_open_to(history, author, session)
             && !history.is_pending(session)
             && fine
-            && same_manifests(champions, found),
+            && same_manifests(champions.as_slice(), found),
     )
 }
 
@@ -181,10 +179,7 @@ pub(crate) fn is_allowed<const L: usize>(
             session,
             hooks,
             champions,
-        } => {
-            let (hooks, champions) = (hooks.as_slice(), champions.as_slice());
-            is_choice_allowed(journal, alloc, author, *session, hooks, champions, found)
-        }
+        } => is_choice_allowed(journal, alloc, author, *session, hooks, champions, found),
         Point::Commit {
             manifest,
             chunks,

@@ -1,11 +1,10 @@
 // The champions of a segment.
-ghost use Rattle.std.specs.Prelude.{◌≡◌, ◌≤◌, true, map, reverse, IfOk, All, vec_len};
-ghost use Rattle.ss_base.specs.declared.name.Name.{Name as Hook};
+ghost use Rattle.std.specs.Prelude.{◌≡◌, ◌≤◌, map, IfOk, All};
 ghost use Rattle.ss_base.specs.Champions.{champions};
 ghost use Rattle.champion_choice.specs.Lists.{standings, StampsTell};
 ghost use Rattle.champion_choice.specs.Scores.{StandsOnce};
 ghost use Rattle.sparse_index.specs.Lists.{list_at};
-ghost use Rattle.history.specs.StandingList.{standing, champions_for};
+ghost use Rattle.history.specs.StandingList.{champions_for};
 ghost use Rattle.store_core.specs.View.{past_of, rules_of};
 
 use crate::State;

@@ -10,7 +10,7 @@ ghost use Rattle.history_index.specs.IndexOf.{IsIndexOf};
 ghost use Rattle.history_index.specs.Choices.{choices_for};
 ghost use Rattle.history_counts.specs.CountsOf.{AreCountsOf, HasRoomFor};
 ghost use Rattle.history_counts.specs.Streams.{pins_of, stream_of, commits_in};
-ghost use Rattle.history_totals.specs.TallyOf.{tally_of, commits_settled};
+ghost use Rattle.history_totals.specs.TallyOf.{commits_settled};
 ghost use Rattle.store_core.specs.Journal.{AreInStep, ends_choice};
 
 use history::{Entry, Point, Rules};

@@ -1,8 +1,7 @@
 // What a history keeps of its committed manifests.
-ghost use Rattle.std.specs.Prelude.{◌≡◌, true, ◌++◌, [], filter_map, reverse, IfOk, OnOk};
+ghost use Rattle.std.specs.Prelude.{◌≡◌, ◌++◌, [], filter_map, reverse, IfOk, OnOk};
 ghost use Rattle.std.specs.List.{cons_option};
 ghost use Rattle.history.specs.Sessions.{commits};
-ghost use Rattle.history_laws.specs.EntryNumbers.{numbers_of};
 ghost use Rattle.legal_history.specs.Recorded.{past_of};
 ghost use Rattle.store_core.specs.View.{kept_by, kept_at, kept};
 

@@ -1,5 +1,5 @@
 // In which containers the chunks of a segment may lie.
-ghost use Rattle.std.specs.Prelude.{◌≡◌, ◌==◌, ◌&&◌, ◌||◌, nat_lt, true, reverse};
+ghost use Rattle.std.specs.Prelude.{◌≡◌, ◌==◌, ◌&&◌, ◌||◌, true, reverse};
 ghost use Rattle.std.specs.List.{list_all, list_any};
 ghost use Rattle.ss_base.specs.Ids.{has_container, same_container};
 ghost use Rattle.ss_base.specs.Order.{is_container_before, is_before_first, are_ascending};

@@ -1,7 +1,7 @@
 -- What is whole of a stream while its bytes come.
 use Rattle.std.proofs.Common.{◌≡◌, ℕ, ◌+◌, Bool, true, false, List, [], ◌∷◌, ◌++◌, length, refl, sym, ap, ◌∙◌, subst, arith}
 use Rattle.std.proofs.lemmas.Bool.{cond-true, cond-false}
-use Rattle.std.proofs.lemmas.List.{append-nil, length-append}
+use Rattle.std.proofs.lemmas.List.{append-nil}
 use Rattle.ss_base.specs.declared.profile.Profile.{Profile}
 use Rattle.ss_base.specs.declared.profile.Numbers.{Numbers}
 use Rattle.ss_base.specs.Profile.{numbers_of, AreSound}
@@ -11,8 +11,8 @@ use Rattle.chunk_name.specs.Pieces.{name_of_bytes}
 use Rattle.tttd_chunker.specs.Cut.{has_cut, cut}
 use Rattle.tttd_chunker.proofs.CutLaws.{cut-nil, cut-step}
 use Rattle.tttd_chunker.proofs.StreamLaws.{cut-last}
-use Rattle.segmenter.specs.Segments.{ends_behind, ends_at, segments}
-use Rattle.segmenter.proofs.SegmentsLaws.{segments-nil, segments-last, ends_at-seam, NonePasses-push}
+use Rattle.segmenter.specs.Segments.{ends_behind, ends_at}
+use Rattle.segmenter.proofs.SegmentsLaws.{segments-nil, segments-last, NonePasses-push}
 use Rattle.std.specs.List.{flat_map}
 use Rattle.store_run.specs.Lines.{segment_line, segment_lines}
 use Rattle.store_run.specs.declared.line_printer.LinePrinter.{LinePrinter}
@@ -70,17 +70,6 @@ still-up_to_date text printer up =
     ∙ ap (λ (chunks : List (List ℕ)). waiting ++ text so_far printer.lines chunks) (chunks-none p printer.chunker.bytes up.no_cut)
     ∙ ap (λ (l : List ℕ). waiting ++ l) up.no_line
     ∙ append-nil waiting
-
--- a segment that ends whatever comes is the first at either stage
-pub segments-ends : (n : Numbers) (front : List (List ℕ)) (chunk : List ℕ) → ends_behind n (length front + 1) (name_of_bytes chunk) ≡ true
-    → ((later : List (List ℕ)) → segments n (front ++ chunk ∷ later) ≡ (front ++ chunk ∷ []) ∷ segments n later)
-    → (stage : Stage) (later : List (List ℕ)) → segments_of stage n (front ++ chunk ∷ later) ≡ (front ++ chunk ∷ []) ∷ segments_of stage n later
-segments-ends n front chunk ends first at_end later = first later
-segments-ends n front chunk ends first so_far later =
-    let ended = λ (segment : List (List ℕ)). ends_at n segment (length segment) in
-    let here : ended (front ++ chunk ∷ []) ≡ true =
-    ap (ends_at n (front ++ chunk ∷ [])) (length-append front (chunk ∷ [])) ∙ ends_at-seam n front chunk [] ∙ ends in
-    ap (ended_parts ended) (first later) ∙ ended_parts-first ended (front ++ chunk ∷ []) (segments n later) (λ none. here)
 
 -- where no segment ends, none is so far
 pub segments-none : (n : Numbers) (chunks : List (List ℕ)) → NonePasses (ends_at n chunks) 1 (length chunks) → segments_of so_far n chunks ≡ []
