@@ -3,7 +3,7 @@
 use crate::Depot;
 use crate::test_state::removals;
 use outside::{MemShelf, Trouble};
-use ss_base::{ManifestId, Memory, Object};
+use ss_base::{ContainerId, ManifestId, Memory, Object};
 use std::alloc::Global;
 use std::test::Fail;
 use store_core::removal_object;

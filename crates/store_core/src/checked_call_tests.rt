@@ -1,6 +1,6 @@
 // Calls that record a step of a table. Each is made where its conditions hold, its answer is compared with the step,
 // and whether an entry was added is told: none is where the limits would be broken.
-ghost use Rattle.std.specs.Prelude.{◌≡◌, ◌<◌, true, false};
+ghost use Rattle.std.specs.Prelude.{◌≡◌, ◌≤◌, ◌<◌, ◌^◌, length, true, false};
 ghost use Rattle.history.specs.OwnEnd.{own_end};
 ghost use Rattle.history.specs.Sessions.{is_looked_by, is_pending, is_reading};
 ghost use Rattle.history.specs.Legal.{are_texts, are_uses, is_open_to};

@@ -8,7 +8,7 @@ use crate::entry_tables::*;
 use crate::history_tables::*;
 use crate::{OpenFault, State};
 use history::{Entry, Limits, Point, Totals, erasable, standing, totals};
-use ss_base::{Object, Profile};
+use ss_base::{Name, Object, Profile};
 use std::alloc::Global;
 use std::process;
 use std::test::Fail;
