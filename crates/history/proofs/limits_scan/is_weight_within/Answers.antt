@@ -6,7 +6,7 @@ use Rattle.std.proofs.lemmas.List.Sums.{sum_by_more_le}
 use Rattle.journal_entry.specs.declared.entry.Entry.{Entry}
 use Rattle.journal_entry.specs.Weight.{point_weight, weight}
 use Rattle.history.proofs.Scans.{sum_by-reverse}
-use Rattle.history.proofs.legality.is_weight_within.Goals as goal
+use Rattle.history.proofs.limits_scan.is_weight_within.Goals as goal
 
 pub returns-then-left-part : goal.returns-then-left-part
 unfolding weight
