@@ -1,5 +1,5 @@
-// Calls that record an entry. Each is made where its conditions hold, its answer is compared with the entry, and whether
-// the entry was added is told: it is not where the limits would be broken.
+// Calls that record an entry. Each is made where its conditions hold, its answer is compared with the entry, and it is
+// told whether the entry was added: it is not where the limits would be broken.
 ghost use Rattle.std.specs.Prelude.{◌≡◌, ◌≤◌, ◌<◌, ◌^◌, length, true, false};
 ghost use Rattle.history.specs.OwnEnd.{own_end};
 ghost use Rattle.history.specs.Sessions.{is_looked_by, is_pending, is_reading};

@@ -1,4 +1,5 @@
-// Entries, for tests, as the lines that are printed of a journal, without their numbers and with hooks by their letters.
+// Entries, for tests, as the lines that are printed of a journal, but without their numbers, and with the hooks by
+// letters.
 use history::{Entry, Items, Point, Seen, Totals};
 use ss_base::{ContainerId, ManifestId, Name, Object, StreamName};
 use std::alloc::Global;
@@ -291,16 +292,11 @@ pub(crate) fn read_entry(alloc: Global, line: &str) -> Result<Entry, Fail> {
     Ok(Entry { author, point })
 }
 
-// Adds the entries of the lines.
-pub(crate) fn read_more(alloc: Global, entries: &mut Vec<Entry>, lines: &str) -> Result<(), Fail> {
+// The entries of the lines.
+pub(crate) fn read_entries(alloc: Global, lines: &str) -> Result<Vec<Entry>, Fail> {
+    let mut entries = Vec::new(alloc);
     for line in lines.lines() {
         entries.push(read_entry(alloc, line)?)?;
     }
-    Ok(())
-}
-
-pub(crate) fn read_entries(alloc: Global, lines: &str) -> Result<Vec<Entry>, Fail> {
-    let mut entries = Vec::new(alloc);
-    read_more(alloc, &mut entries, lines)?;
     Ok(entries)
 }
