@@ -206,24 +206,32 @@ fn totals_between() -> &'static str {
      a3 begin x taken"
 }
 
-// The lines of the history of this name.
+// The names, and the lines of each history.
+fn named_histories() -> [(&'static str, &'static str); 15] {
+    [
+        ("backups", two_backups()),
+        ("segments", three_segments()),
+        ("champions", two_champions()),
+        ("reading", deleted_while_read()),
+        ("hooks", three_hooks()),
+        ("tie", tie()),
+        ("promotion", promotion()),
+        ("two_hooks", promotion_of_two_hooks()),
+        ("pinned", deleted_champion()),
+        ("fault", input_fault_after_two_segments()),
+        ("aborted", champion_of_an_aborted_session()),
+        ("shared", shared_chunk()),
+        ("hookless", no_hooks()),
+        ("empty", empty_stream()),
+        ("between", totals_between()),
+    ]
+}
+
 pub(crate) fn lines_of(name: &str) -> Result<&'static str, Fail> {
-    Ok(match name {
-        "backups" => two_backups(),
-        "segments" => three_segments(),
-        "champions" => two_champions(),
-        "reading" => deleted_while_read(),
-        "hooks" => three_hooks(),
-        "tie" => tie(),
-        "promotion" => promotion(),
-        "two_hooks" => promotion_of_two_hooks(),
-        "pinned" => deleted_champion(),
-        "fault" => input_fault_after_two_segments(),
-        "aborted" => champion_of_an_aborted_session(),
-        "shared" => shared_chunk(),
-        "hookless" => no_hooks(),
-        "empty" => empty_stream(),
-        "between" => totals_between(),
-        _ => return Err("the name of a history")?,
-    })
+    for (known, lines) in named_histories() {
+        if known == name {
+            return Ok(lines);
+        }
+    }
+    Err("the name of a history")?
 }
