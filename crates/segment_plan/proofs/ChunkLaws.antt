@@ -1,8 +1,8 @@
 -- The chunks of a segment, as its pieces and its bytes give them, and those of them that are fresh.
-use Rattle.std.proofs.Common.{◌≡◌, ℕ, ◌+◌, ◌*◌, ◌<◌, ◌≤◌, Bool, true, false, List, [], ◌∷◌, ◌++◌, map, length, take, drop, get_or, All, refl, sym, ap, ◌∙◌, arith}
+use Rattle.std.proofs.Common.{◌≡◌, ℕ, suc, ◌+◌, ◌*◌, ◌<◌, ◌≤◌, Bool, true, false, List, [], ◌∷◌, ◌++◌, map, length, take, drop, get_or, All, refl, sym, ap, ◌∙◌, arith}
 use Rattle.std.specs.List.{concat, sum_by}
 use Rattle.std.proofs.Math.Seq.{take-append_seam, drop-append_seam, drop-cons}
-use Rattle.std.proofs.lemmas.List.{length-map}
+use Rattle.std.proofs.lemmas.List.{length-map, drop_all}
 use Rattle.std.proofs.lemmas.List.Sums.{sum_by-cons}
 use Rattle.std.proofs.lemmas.Simd.{map-map}
 use Rattle.ss_base.specs.declared.name.Piece.{Piece}
@@ -89,7 +89,7 @@ marked-len (false ∷ ms) (p ∷ ps) =
     omega (arith, rest, whole)
 
 pub further : {X : Type 0} (xs : List X) (i : ℕ) (d : X) → i < length xs → drop i xs ≡ get_or xs i d ∷ drop (i + 1) xs
-further xs i d lt = drop-cons xs i d lt ∙ ap (λ k. get_or xs i d ∷ drop k xs) (omega arith)
+further xs i d lt = let next : suc i ≡ i + 1 = omega arith in drop-cons xs i d lt ∙ ap (λ (k : ℕ). get_or xs i d ∷ drop k xs) next
 
 len-taken : (p : Piece) (ps : List Piece) (m : Bool) (ms : List Bool) → m ≡ true → total_len (marked (m ∷ ms) (p ∷ ps)) ≡ p.len + total_len (marked ms ps)
 unfolding marked
@@ -114,6 +114,14 @@ len-same ps ms i m lp lm is =
     ap (λ qs. total_len (marked (drop i ms) qs)) (further ps i none lp)
     ∙ ap (λ ns. total_len (marked ns (get_or ps i none ∷ drop (i + 1) ps))) (further ms i m lm)
     ∙ len-skipped (get_or ps i none) (drop (i + 1) ps) (get_or ms i m) (drop (i + 1) ms) is
+
+none-marked : (ms : List Bool) → total_len (marked ms []) ≡ 0
+unfolding marked
+none-marked [] = refl
+none-marked (m ∷ ms) = refl
+
+pub len-none : (ps : List Piece) (ms : List Bool) (i : ℕ) → length ps ≤ i → total_len (marked (drop i ms) (drop i ps)) ≡ 0
+len-none ps ms i high = ap (λ (qs : List Piece). total_len (marked (drop i ms) qs)) (drop_all i ps high) ∙ none-marked (drop i ms)
 
 -- ---- numbers
 

@@ -4,3 +4,4 @@ pub mod LieLaws
 pub mod PlacingLaws
 pub mod UseLaws
 pub mod PutLaws
+pub mod PlannedLaws

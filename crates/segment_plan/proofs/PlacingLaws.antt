@@ -1,5 +1,6 @@
 -- One more place.
-use Rattle.std.proofs.Common.{◌≡◌, ℕ, ◌+◌, ◌<◌, List, [], ◌∷◌, ◌++◌, length, drop, get_or, sym, ap, ◌∙◌, subst, append_assoc}
+use Rattle.std.proofs.Common.{◌≡◌, ℕ, ◌+◌, ◌<◌, ◌≤◌, List, [], ◌∷◌, ◌++◌, length, drop, get_or, sym, ap, ◌∙◌, subst, append_assoc, append-nil}
+use Rattle.std.proofs.lemmas.List.{drop_all}
 use Rattle.ss_base.specs.declared.ids.Place.{Place}
 use Rattle.lack_plan.specs.declared.origin.Origin.{Origin}
 use Rattle.segment_plan.specs.Plan.{place_from, left_from, placed_behind}
@@ -25,3 +26,9 @@ pub next-there : (done : List Place) (os : List Origin) (i : ℕ) (d : Origin) (
     × AreThere (done ++ place_from (get_or os i d) done fresh lists ∷ []) (drop (i + 1) os) (left_from (get_or os i d) fresh) lists
 unfolding AreThere
 next-there done os i d fresh lists lt all = subst (λ (rest : List Origin). AreThere done rest fresh lists) (further os i d lt) all
+
+pub all-placed : (done : List Place) (os : List Origin) (i : ℕ) (fresh : List Place) (lists : List (List Place)) (whole : List Place) → length os ≤ i →
+    done ++ placed_behind done (drop i os) fresh lists ≡ whole → done ≡ whole
+unfolding placed_behind
+all-placed done os i fresh lists whole high is =
+    sym (append-nil done) ∙ ap (λ (rest : List Origin). done ++ placed_behind done rest fresh lists) (sym (drop_all i os high)) ∙ is

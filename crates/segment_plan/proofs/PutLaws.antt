@@ -2,6 +2,7 @@
 use Rattle.std.proofs.Common.{◌≡◌, ℕ, ◌+◌, ◌*◌, ◌≤◌, Bool, true, false, List, [], ◌∷◌, ◌++◌, map, length, All, refl, sym, ap, ◌∙◌, inl, inr, arith, length-append, append_assoc, append-nil}
 use Rattle.std.specs.List.{sum_by}
 use Rattle.std.proofs.lemmas.List.Sums.{sum_by-append, sum_by-cons}
+use Rattle.std.specs.Int.{w32, to_be_bytes}
 use Rattle.ss_base.specs.declared.ids.ContainerId.{ContainerId}
 use Rattle.container_file.specs.declared.container_end.ContainerEnd.{ContainerEnd}
 use Rattle.container_file.specs.declared.layout.Put.{Put}
@@ -11,7 +12,7 @@ use Rattle.container_file.specs.Layout.{Written, written, puts}
 use Rattle.container_file.specs.Plan.{new_put, TakesPut}
 use Rattle.container_file.specs.Plan.TakesPut.{last, fresh}
 use Rattle.container_file.proofs.LayoutLaws.{with_record}
-use Rattle.container_file.proofs.PutsLaws.{target, rises, puts-nil, puts-push}
+use Rattle.container_file.proofs.PutsLaws.{target, rises, puts-push}
 use Rattle.container_file.proofs.TextLaws.{All-first, All-rest}
 use Rattle.segment_plan.specs.Planned.{puts_len}
 
@@ -72,8 +73,9 @@ record_len : (c : Chunk) → IsChunk c → length (record_text c) ≡ 36 + c.pie
 record_len c is =
     let name = is.name in
     let bytes = is.bytes in
-    let front = length-append _ c.bytes in
-    let others = length-append _ c.piece.name.0 in
+    let size = to_be_bytes w32 c.piece.len in
+    let front = length-append (size ++ c.piece.name.0) c.bytes in
+    let others = length-append size c.piece.name.0 in
     omega (arith, name, bytes, front, others)
 
 -- one more chunk
@@ -107,10 +109,14 @@ grown-by end room done (c ∷ cs) all =
     let whole = sum_by-cons (λ (d : Chunk). d.piece.len) c cs in
     (omega (arith, one.0, rest.0, same, whole), omega (arith, one.1, rest.1, same, whole))
 
+none-put : (end : ContainerEnd) (room : ℕ) → puts end room [] ≡ []
+unfolding puts
+none-put end room = refl
+
 -- each record has 36 bytes more than its chunk, and each header 16
 pub put-bytes : (end : ContainerEnd) (room : ℕ) (cs : List Chunk) → All IsChunk cs →
     (36 * length cs + chunks_len cs ≤ written_len (puts end room cs)) × (written_len (puts end room cs) ≤ 52 * length cs + chunks_len cs)
 put-bytes end room cs all =
-    let none = ap written_len (puts-nil end room) in
+    let none = ap written_len (none-put end room) in
     let whole = grown-by end room [] cs all in
     (omega (arith, none, whole.0), omega (arith, none, whole.1))

@@ -30,24 +30,34 @@ pub fn plan_segment(
     ensures stored { IfOk result (CanBeStored (located champions.now) end) }
 {
     let origins = lacks(alloc, &segment.pieces, champions)?;
-    let fresh = marks(alloc, &origins)?;
-    let fresh_bytes = fresh_len(&segment.pieces, &fresh);
-    let laid = plan(alloc, &segment.pieces, &segment.bytes, &fresh, end, room)?;
-    let manifest = Manifest {
-        pieces: segment.pieces.clone()?,
-        places: places_of(alloc, &origins, &laid.places, champions)?,
-    };
+    let marks = marks(alloc, &origins)?;
+    let fresh_bytes = fresh_len(&segment.pieces, &marks);
+    let laid = plan(alloc, &segment.pieces, &segment.bytes, &marks, end, room)?;
+    let pieces = copy_of(alloc, &segment.pieces)?;
+    let places = places_of(alloc, &origins, &laid.places, champions)?;
+    let fresh = laid.places.len() as u32;
+    let manifest = Manifest { pieces, places };
+    let text = encode(alloc, &manifest)?;
+    let uses = containers(alloc, &manifest)?;
     Ok(SegmentPlan {
-        text: encode(alloc, &manifest)?,
+        puts: laid.puts,
+        end: laid.end,
+        text,
         content: content(&segment.pieces),
         chunks: segment.pieces.len() as u32,
         bytes: segment.bytes.len() as u32,
-        fresh: laid.places.len() as u32,
+        fresh,
         fresh_bytes,
-        uses: containers(alloc, &manifest)?,
-        puts: laid.puts,
-        end: laid.end,
+        uses,
     })
+}
+
+fn copy_of(alloc: Global, pieces: &[Piece]) -> Result<Vec<Piece>, Memory>
+    ensures { IfOk result (λ copy. copy.items ≡ pieces.now) }
+{
+    let mut copy = Vec::with_capacity(alloc, pieces.len())?;
+    copy.extend_from_slice(pieces)?;
+    Ok(copy)
 }
 
 // Which of the chunks are fresh.
