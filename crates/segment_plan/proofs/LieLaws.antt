@@ -152,12 +152,12 @@ all-lie chunks ms end room have = lies ms (laid end room (fresh_left [] chunks (
 
 -- ---- as many places as pieces
 
-placed-count : (earlier : List Place) (os : List Origin) (fresh : List Place) (lists : List (List Place)) → length (placed_behind earlier os fresh lists) ≡ length os
+pub placed-count : (earlier : List Place) (os : List Origin) (fresh : List Place) (lists : List (List Place)) → length (placed_behind earlier os fresh lists) ≡ length os
 unfolding placed_behind
 placed-count earlier [] fresh lists = refl
 placed-count earlier (o ∷ os) fresh lists = let p = place_from o earlier fresh lists in ap (λ n. suc n) (placed-count (earlier ++ p ∷ []) os (left_from o fresh) lists)
 
-origins-count : (earlier ps : List Piece) (lists : List (List Piece)) → length (origins_behind earlier ps lists) ≡ length ps
+pub origins-count : (earlier ps : List Piece) (lists : List (List Piece)) → length (origins_behind earlier ps lists) ≡ length ps
 unfolding origins_behind
 origins-count earlier [] lists = refl
 origins-count earlier (p ∷ ps) lists = ap (λ n. suc n) (origins-count (earlier ++ p ∷ []) ps lists)

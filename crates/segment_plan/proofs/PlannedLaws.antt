@@ -1,7 +1,8 @@
 -- What was made is the plan, and a commit can record it.
-use Rattle.std.proofs.Common.{◌≡◌, ℕ, ◌+◌, ◌*◌, ◌<◌, ◌≤◌, ◌^◌, Bool, List, [], ◌∷◌, map, length, All, Contains, refl, sym, ap, ◌∙◌, subst, arith}
+use Rattle.std.proofs.Common.{◌≡◌, ℕ, ◌+◌, ◌*◌, ◌<◌, ◌≤◌, ◌^◌, Bool, List, [], ◌∷◌, map, length, get_or, All, Contains, refl, sym, ap, ◌∙◌, subst, arith}
 use Rattle.std.specs.List.{sum_by}
 use Rattle.std.proofs.lemmas.List.{length-map}
+use Rattle.std.proofs.lemmas.List.Elements.{All-map}
 use Rattle.std.proofs.lemmas.List.Sums.{sum_by-cons}
 use Rattle.std.proofs.lemmas.Simd.{map-map}
 use Rattle.ss_base.specs.declared.ids.ContainerId.{ContainerId}
@@ -47,6 +48,9 @@ same-lists champions = map-map (λ (m : Located). m.pieces) as_located champions
 pub same-places : (champions : List Manifest) → places_of (located champions) ≡ located_at champions
 same-places champions = map-map (λ (m : Located). m.places) as_located champions
 
+pub has-places : (champions : List Manifest) → All HasPlaces (located champions)
+has-places champions = All-map HasPlaces as_located champions (λ k d lt. (get_or champions k d).listed.located)
+
 -- ---- the fresh chunks
 
 abbrev pub fresh_here : List Piece → List ℕ → List Manifest → List Chunk
@@ -76,6 +80,17 @@ laid-count end room (c ∷ cs) = let rest = laid-count (after end room c.piece) 
 
 pub placed-fresh : (end : ContainerEnd) (room : ℕ) (cs : List Chunk) → length (places end room cs) ≡ length cs
 placed-fresh end room cs = length-map (laid end room cs) (λ (l : Laid). l.place) ∙ laid-count end room cs
+
+pub few-fresh : (ps : List Piece) (bytes : List ℕ) (champions : List Manifest) (end : ContainerEnd) (room : ℕ) → ArePieces ps bytes →
+    length (places end room (fresh_here ps bytes champions)) ≤ length ps
+few-fresh ps bytes champions end room are =
+    let count = placed-fresh end room (fresh_here ps bytes champions) in
+    let few = fresh-count (parts_of ps bytes) (pieces_of (located champions)) in
+    let size : length (parts_of ps bytes) ≡ length ps = sym (length-map (parts_of ps bytes) _) ∙ ap length are.parts in
+    omega (arith, count, few, size)
+
+pub chunks-same : (a ps : List Piece) (b bytes : List ℕ) (m marks : List Bool) → a ≡ ps → b ≡ bytes → m ≡ marks → fresh_chunks a b m ≡ fresh_chunks ps bytes marks
+chunks-same a ps b bytes m marks first second third = λ i. fresh_chunks (first i) (second i) (third i)
 
 -- ---- the plan
 
