@@ -1,6 +1,6 @@
 -- The chunks of a segment, as its pieces and its bytes give them, and those of them that are fresh.
 use Rattle.std.proofs.Common.{◌≡◌, ℕ, suc, ◌+◌, ◌*◌, ◌<◌, ◌≤◌, Bool, true, false, List, [], ◌∷◌, ◌++◌, map, length, take, drop, get_or, All, refl, sym, ap, ◌∙◌, arith}
-use Rattle.std.specs.List.{concat, sum_by}
+use Rattle.std.specs.List.{concat}
 use Rattle.std.proofs.Math.Seq.{take-append_seam, drop-append_seam, drop-cons}
 use Rattle.std.proofs.lemmas.List.{length-map, drop_all}
 use Rattle.std.proofs.lemmas.List.Sums.{sum_by-cons}

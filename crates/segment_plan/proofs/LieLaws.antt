@@ -1,8 +1,8 @@
 -- Each piece has a place, at which it lies.
-use Rattle.std.proofs.Common.{◌≡◌, ◌⊎◌, ℕ, zero, suc, ◌+◌, ◌<◌, Bool, true, false, List, [], ◌∷◌, ◌++◌, map, length, get_or, Some, slice_get, All, Contains, refl, sym, ap, ◌∙◌, subst, inl, inr, arith, length-append}
+use Rattle.std.proofs.Common.{◌≡◌, ℕ, zero, suc, ◌<◌, Bool, true, false, List, [], ◌∷◌, ◌++◌, map, length, get_or, Some, slice_get, All, Contains, refl, sym, ap, ◌∙◌, subst, inl, inr, arith, length-append}
 use Rattle.std.proofs.lemmas.List.{length-map, get_or-map}
 use Rattle.std.proofs.lemmas.List.Elements.{Contains-get_or}
-use Rattle.std.proofs.lemmas.Option.{slice_get-get_or, slice_get_within, get_or_from_slice_get}
+use Rattle.std.proofs.lemmas.Option.{slice_get-get_or, slice_get_within}
 use Rattle.ss_base.specs.declared.ids.Place.{Place}
 use Rattle.ss_base.specs.declared.name.Piece.{Piece}
 use Rattle.ss_base.specs.Origins.{is_fresh, fresh_behind}
@@ -10,16 +10,16 @@ use Rattle.ss_base.proofs.MemberLaws.{In}
 use Rattle.ss_base.proofs.GetLaws.{at_end}
 use Rattle.chunk_name.specs.Pieces.{piece, pieces}
 use Rattle.container_file.specs.declared.container_end.ContainerEnd.{ContainerEnd}
-use Rattle.container_file.specs.Chunk.{Chunk, the_chunk, marked}
+use Rattle.container_file.specs.Chunk.{the_chunk, marked}
 use Rattle.container_file.specs.Layout.{after, place_for, Laid, laid, places}
 use Rattle.lack_plan.specs.declared.origin.Origin.{Origin}
 use Rattle.lack_plan.specs.declared.origin.Origin.TheVariants.{Fresh, Champion, Earlier}
 use Rattle.lack_plan.specs.Plan.{origin, origins_behind, origins}
 use Rattle.ss_base.specs.Origins.{fresh_marks}
 use Rattle.segment_plan.specs.Plan.{Located, pieces_of, places_of, no_place, place_from, left_from, fresh_of, placed_behind, places_against, laid_against}
-use Rattle.segment_plan.specs.Located.{HasPlaces, IsLaidThere, IsListedThere, LiesThere}
-use Rattle.segment_plan.specs.Placing.{IsThere, AreThere}
-use Rattle.segment_plan.proofs.StepLaws.{IsNew, IsRepeated, IsStored, step, fresh_left, left, left-new, laid-new, laid-old, old_place, left-old}
+use Rattle.segment_plan.specs.Located.{HasPlaces, IsListedThere, LiesThere}
+use Rattle.segment_plan.specs.Placing.{AreThere}
+use Rattle.segment_plan.proofs.StepLaws.{step, fresh_left, left, left-new, laid-new, laid-old, old_place, left-old}
 
 pub Contains-from_in : {X : Type 0} (x : X) (xs : List X) → In x xs → Contains xs x
 Contains-from_in x [] h = absurd h
@@ -44,14 +44,16 @@ number ms which have below =
     let size = length-map ms (λ (m : Located). m.pieces) in
     let other = length-map ms (λ (m : Located). m.places) in
     let lt : which < length ms = omega (arith, below, size) in
-    let m = get_or ms which nothing in
-    (m, record {
-      there = Contains-get_or ms which nothing lt;
-      pieces_are = get_or-map (λ (m : Located). m.pieces) ms which nothing [] lt;
-      places_are = get_or-map (λ (m : Located). m.places) ms which nothing [] lt;
-      placed = omega (arith, lt, other);
-      has = have which nothing lt;
-    })
+    let m = get_or ms which nothing in (
+      m,
+      record {
+        there = Contains-get_or ms which nothing lt;
+        pieces_are = get_or-map (λ (m : Located). m.pieces) ms which nothing [] lt;
+        places_are = get_or-map (λ (m : Located). m.places) ms which nothing [] lt;
+        placed = omega (arith, lt, other);
+        has = have which nothing lt;
+      },
+    )
 
 -- the place there
 stored-place : (ms : List Located) (which at : ℕ) (p : Piece) (m : Located) → IsNumber ms which m → slice_get (get_or (pieces_of ms) which []) at ≡ Some p →
@@ -61,14 +63,16 @@ stored-place ms which at p m is here =
     let inside = slice_get_within m.pieces at p named in
     let have = is.has in
     let low : at < length m.places = omega (arith, inside, have) in
-    let size = ap length is.places_are in
-    (omega (arith, low, size), record {
-      manifest = m;
-      number = at;
-      there = is.there;
-      piece_there = named;
-      place_there = slice_get-get_or m.places at no_place low ∙ ap (λ (qs : List Place). Some (get_or qs at no_place)) (sym is.places_are);
-    })
+    let size = ap length is.places_are in (
+      omega (arith, low, size),
+      record {
+        manifest = m;
+        number = at;
+        there = is.there;
+        piece_there = named;
+        place_there = slice_get-get_or m.places at no_place low ∙ ap (λ (qs : List Place). Some (get_or qs at no_place)) (sym is.places_are);
+      },
+    )
 
 -- ---- pieces that lie at their places
 

@@ -1,11 +1,10 @@
 -- What was made is the plan, and a commit can record it.
-use Rattle.std.proofs.Common.{◌≡◌, ℕ, ◌+◌, ◌*◌, ◌<◌, ◌≤◌, ◌^◌, Bool, List, [], ◌∷◌, map, length, get_or, All, Contains, refl, sym, ap, ◌∙◌, subst, arith}
+use Rattle.std.proofs.Common.{◌≡◌, ℕ, ◌+◌, ◌≤◌, Bool, List, [], ◌∷◌, map, length, get_or, All, refl, sym, ap, ◌∙◌, subst, arith}
 use Rattle.std.specs.List.{sum_by}
 use Rattle.std.proofs.lemmas.List.{length-map}
 use Rattle.std.proofs.lemmas.List.Elements.{All-map}
 use Rattle.std.proofs.lemmas.List.Sums.{sum_by-cons}
 use Rattle.std.proofs.lemmas.Simd.{map-map}
-use Rattle.ss_base.specs.declared.ids.ContainerId.{ContainerId}
 use Rattle.ss_base.specs.declared.ids.Place.{Place}
 use Rattle.ss_base.specs.declared.name.Piece.{Piece}
 use Rattle.ss_base.specs.Origins.{fresh_marks}
@@ -24,10 +23,10 @@ use Rattle.lack_plan.proofs.OriginLaws.{marks-origins}
 use Rattle.segment_plan.specs.declared.segment_plan.SegmentPlan.{SegmentPlan}
 use Rattle.segment_plan.specs.Plan.{Located, pieces_of, places_of, fresh_of, placed_behind, places_against, laid_against, end_against, puts_against}
 use Rattle.segment_plan.specs.Located.{HasPlaces, MayUse}
-use Rattle.segment_plan.specs.Planned.{located, total_len, puts_len, IsPlanOf, CanBeStored}
+use Rattle.segment_plan.specs.Planned.{located, total_len, IsPlanOf, CanBeStored}
 use Rattle.segment_plan.specs.Placing.{AreThere}
 use Rattle.segment_plan.proofs.ChunkLaws.{fresh-is, len-bounds, fresh-pieces, fresh-count, fresh-len}
-use Rattle.segment_plan.proofs.LieLaws.{AllLie, all-lie, places-count, all-there}
+use Rattle.segment_plan.proofs.LieLaws.{all-lie, places-count, all-there}
 use Rattle.segment_plan.proofs.UseLaws.{may-use, uses-count}
 use Rattle.segment_plan.proofs.PutLaws.{chunks_len, puts-written, put-bytes}
 
@@ -119,11 +118,11 @@ is-plan ps bytes champions before room marks lying plan are made =
     let lists = lists_of champions in
     let at = located_at champions in
     let there : lying ≡ placed_behind [] (origins (pieces chunks) (pieces_of ms)) (places before room fresh) (places_of ms) =
-        made.lie
-        ∙ ap (λ (ds : List Chunk). placed_behind [] (origins ps lists) (places before room ds) at) cs
-        ∙ ap (λ (qs : List Piece). placed_behind [] (origins qs lists) (places before room fresh) at) (sym are.parts)
-        ∙ ap (λ (ls : List (List Piece)). placed_behind [] (origins (pieces chunks) ls) (places before room fresh) at) (sym (same-lists champions))
-        ∙ ap (λ (ls : List (List Place)). placed_behind [] (origins (pieces chunks) (pieces_of ms)) (places before room fresh) ls) (sym (same-places champions)) in
+    made.lie
+    ∙ ap (λ (ds : List Chunk). placed_behind [] (origins ps lists) (places before room ds) at) cs
+    ∙ ap (λ (qs : List Piece). placed_behind [] (origins qs lists) (places before room fresh) at) (sym are.parts)
+    ∙ ap (λ (ls : List (List Piece)). placed_behind [] (origins (pieces chunks) ls) (places before room fresh) at) (sym (same-lists champions))
+    ∙ ap (λ (ls : List (List Place)). placed_behind [] (origins (pieces chunks) (pieces_of ms)) (places before room fresh) ls) (sym (same-places champions)) in
     record {
       puts = made.puts_are ∙ ap (λ (ds : List Chunk). puts before room ds) cs;
       end = made.end_is ∙ ap (λ (ds : List Chunk). end_after before room ds) cs;

@@ -9,7 +9,7 @@ use Rattle.ss_base.proofs.IdLaws.{same_piece-cases}
 use Rattle.chunk_name.specs.Pieces.{piece, pieces}
 use Rattle.container_file.specs.declared.container_end.ContainerEnd.{ContainerEnd}
 use Rattle.container_file.specs.Chunk.{Chunk, the_chunk, marked}
-use Rattle.container_file.specs.Layout.{after, place_for, Laid, laid, places}
+use Rattle.container_file.specs.Layout.{after, place_for, laid, places}
 use Rattle.container_file.proofs.LayoutLaws.{if-true, if-false}
 use Rattle.lack_plan.specs.declared.origin.Origin.{Origin}
 use Rattle.lack_plan.specs.declared.origin.Origin.TheVariants.{Fresh, Champion, Earlier}

@@ -1,5 +1,5 @@
 -- The containers of a plan's places, and how many they are.
-use Rattle.std.proofs.Common.{◌≡◌, ◌≢◌, ◌⊎◌, ℕ, suc, ◌+◌, ◌<◌, ◌≤◌, List, [], ◌∷◌, map, length, get_or, Contains, refl, sym, ap, ◌∙◌, subst, inl, inr, arith}
+use Rattle.std.proofs.Common.{◌≡◌, ◌≢◌, ◌⊎◌, ℕ, suc, ◌<◌, ◌≤◌, List, [], ◌∷◌, map, length, get_or, Contains, refl, sym, ap, ◌∙◌, subst, inl, inr, arith}
 use Rattle.std.specs.List.Sorted.{IsStrictlySortedBy}
 use Rattle.std.specs.Cmp.{IsTotalOrder, then_total, on_total, nat_cmp_total}
 use Rattle.std.specs.declared.cmp.Ordering.{Ordering}
@@ -21,7 +21,7 @@ use Rattle.container_file.specs.Layout.{after, place_for, Laid, laid, end_after}
 use Rattle.container_file.proofs.LayoutLaws.{after_session, end_session, first_there}
 use Rattle.container_file.proofs.PlanLaws.{opened_session}
 use Rattle.segment_plan.specs.Plan.{Located, no_place}
-use Rattle.segment_plan.specs.Located.{LiesThere, MayUse}
+use Rattle.segment_plan.specs.Located.{MayUse}
 use Rattle.segment_plan.proofs.LieLaws.{AllLie, Contains-from_in}
 
 -- ---- a container of the session's own
@@ -75,10 +75,13 @@ may-use ms end room cs ps qs size lie id has =
           inr (record {
             manifest = m;
             there = listed.there;
-            container = (listed.number, omega (arith, inside, others),
-            get_or-map (λ (p : Place). p.container) m.places listed.number no_place id inside
-            ∙ ap (λ (x : Place). x.container) (get_or_from_slice_get m.places listed.number q no_place listed.place_there)
-            ∙ is);
+            container = (
+              listed.number,
+              omega (arith, inside, others),
+              get_or-map (λ (p : Place). p.container) m.places listed.number no_place id inside
+                  ∙ ap (λ (x : Place). x.container) (get_or_from_slice_get m.places listed.number q no_place listed.place_there)
+                  ∙ is,
+            );
           })
     ]
 
@@ -89,11 +92,14 @@ without : {X : Type 0} (x : X) (ys : List X) → In x ys → (zs : List X) × (l
 without x [] h = absurd h
 without x (y ∷ ys) (inl is) = (ys, refl, λ z h. elim h [ inl same ↦ inl (sym same ∙ is) | inr later ↦ inr later ])
 without x (y ∷ ys) (inr later) =
-    let rest = without x ys later in
-    (y ∷ rest.0, ap (λ n. suc n) rest.1, λ z h. elim h [
-      | inl same ↦ inr (inl same)
-      | inr after ↦ elim (rest.2 z after) [ inl same ↦ inl same | inr kept ↦ inr (inr kept) ]
-    ])
+    let rest = without x ys later in (
+      y ∷ rest.0,
+      ap (λ n. suc n) rest.1,
+      λ z h. elim h [
+        | inl same ↦ inr (inl same)
+        | inr after ↦ elim (rest.2 z after) [ inl same ↦ inl same | inr kept ↦ inr (inr kept) ]
+      ],
+    )
 
 -- no item stands twice
 abbrev AllOther : {X : Type 0} → List X → Type 0

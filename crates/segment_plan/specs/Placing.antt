@@ -1,5 +1,5 @@
 -- Origins whose places are there.
-use Rattle.std.specs.Prelude.{ℕ, ◌<◌, List, [], ◌∷◌, ◌++◌, length}
+use Rattle.std.specs.Prelude.{◌<◌, List, [], ◌∷◌, ◌++◌, length}
 use Rattle.std.specs.List.{slice_index_or}
 use Rattle.ss_base.specs.declared.ids.Place.{Place}
 use Rattle.lack_plan.specs.declared.origin.Origin.{Origin}

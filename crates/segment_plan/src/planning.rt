@@ -64,7 +64,10 @@ fn copy_of(alloc: Global, pieces: &[Piece]) -> Result<Vec<Piece>, Memory>
 fn marks(alloc: Global, origins: &[Origin]) -> Result<Vec<bool>, Memory>
     ensures { IfOk result (λ marks. marks.items ≡ map is_fresh_origin origins.now) }
 {
-    let marks = origins.iter().map(|origin| is_fresh(*origin)).collect(alloc)?;
+    let marks = origins
+        .iter()
+        .map(|origin| is_fresh(*origin))
+        .collect(alloc)?;
     Ok(marks)
 }
 

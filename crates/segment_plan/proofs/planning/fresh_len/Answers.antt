@@ -1,5 +1,4 @@
-use Rattle.std.proofs.Common.{rules, ◌≡◌, ◌+◌, ◌<◌, ◌^◌, length, get_or, [], arith}
-use Rattle.ss_base.specs.declared.name.Piece.{Piece}
+use Rattle.std.proofs.Common.{rules, ◌+◌, ◌<◌, ◌^◌, length, get_or, [], arith}
 use Rattle.segment_plan.proofs.ChunkLaws.{marked-len, len-more, len-same, len-none}
 use Rattle.segment_plan.proofs.planning.fresh_len.Goals as goal
 use Rattle.segment_plan.proofs.planning.fresh_len.Goals.{then-marks-i, else-marks-i}

@@ -1,4 +1,4 @@
-use Rattle.std.proofs.Common.{rules, ◌≡◌, ℕ, ◌<◌, ◌≤◌, ◌^◌, Bool, List, [], map, length, All, refl, sym, ap, ◌∙◌, subst, arith}
+use Rattle.std.proofs.Common.{rules, ◌≡◌, ◌<◌, ◌^◌, Bool, List, [], map, length, All, sym, ap, ◌∙◌, subst, arith}
 use Rattle.ss_base.specs.declared.ids.Place.{Place}
 use Rattle.ss_base.specs.declared.name.Piece.{Piece}
 use Rattle.chunk_name.specs.Pieces.{name_of_bytes, HasChunkLen}
@@ -37,7 +37,7 @@ places_of-requires c =
     let marks : c.in_ok-marks.marks.items ≡ map is_fresh_origin (origins ps (lists_of champions)) = c.in_ok-marks.ensures ∙ ap (λ (os : List Origin). map is_fresh_origin os) (c.deref-2.ensures.value ∙ found) in
     let chunks = chunks-same _ ps _ s.bytes.items _ c.in_ok-marks.marks.items c.deref-5.ensures.value c.deref-6.ensures.value c.deref-7.ensures.value in
     let fresh : c.in_ok-laid.laid.places.items ≡ places c.args.end c.args.room (fresh_here ps s.bytes.items champions) =
-        c.in_ok-laid.ensures.places ∙ ap (λ (cs : List Chunk). places c.args.end c.args.room cs) (chunks ∙ same-fresh ps s.bytes.items champions c.in_ok-marks.marks.items s.parts marks) in
+    c.in_ok-laid.ensures.places ∙ ap (λ (cs : List Chunk). places c.args.end c.args.room cs) (chunks ∙ same-fresh ps s.bytes.items champions c.in_ok-marks.marks.items s.parts marks) in
     subst (λ (os : List Origin). AreThere [] os c.deref-10.result.now (located_at champions)) (sym (c.deref-9.ensures.value ∙ found))
     (subst (λ (f : List Place). AreThere [] (origins ps (lists_of champions)) f (located_at champions)) (sym (c.deref-10.ensures.value ∙ fresh))
     (there-here ps s.bytes.items champions c.args.end c.args.room s.parts (has-places champions)))
@@ -51,7 +51,7 @@ overflow_cast-fresh c =
     let marks : c.in_ok-marks.marks.items ≡ map is_fresh_origin (origins ps (lists_of champions)) = c.in_ok-marks.ensures ∙ ap (λ (os : List Origin). map is_fresh_origin os) (c.deref-2.ensures.value ∙ found) in
     let chunks = chunks-same _ ps _ s.bytes.items _ c.in_ok-marks.marks.items c.deref-5.ensures.value c.deref-6.ensures.value c.deref-7.ensures.value in
     let fresh : c.in_ok-laid.laid.places.items ≡ places c.args.end c.args.room (fresh_here ps s.bytes.items champions) =
-        c.in_ok-laid.ensures.places ∙ ap (λ (cs : List Chunk). places c.args.end c.args.room cs) (chunks ∙ same-fresh ps s.bytes.items champions c.in_ok-marks.marks.items s.parts marks) in
+    c.in_ok-laid.ensures.places ∙ ap (λ (cs : List Chunk). places c.args.end c.args.room cs) (chunks ∙ same-fresh ps s.bytes.items champions c.in_ok-marks.marks.items s.parts marks) in
     let few = few-fresh ps s.bytes.items champions c.args.end c.args.room s.parts in
     let size = ap length fresh in
     let bounded = s.bounded in
@@ -67,7 +67,7 @@ invariant_of-manifest c =
     let copy : c.in_ok-pieces.pieces.items ≡ ps = c.in_ok-pieces.ensures ∙ c.deref-8.ensures.value in
     let found : c.deref-9.result.now ≡ origins ps lists = c.deref-9.ensures.value ∙ c.in_ok-origins.ensures.all ∙ ap (λ (qs : List Piece). origins qs lists) c.deref.ensures.value in
     let count : length c.in_ok-places.places.items ≡ length ps =
-        ap length c.in_ok-places.ensures ∙ placed-count [] c.deref-9.result.now c.deref-10.result.now (located_at c.args.champions.now) ∙ ap length found ∙ origins-size ps lists in
+    ap length c.in_ok-places.ensures ∙ placed-count [] c.deref-9.result.now c.deref-10.result.now (located_at c.args.champions.now) ∙ ap length found ∙ origins-size ps lists in
     let size = ap length copy in
     let some = s.some in
     let bounded = s.bounded in
