@@ -1,6 +1,5 @@
 // Where the chunks of a segment lie.
-ghost use Rattle.std.specs.Prelude.{◌≡◌, ◌<◌, List, [], map, length, IfOk};
-ghost use Rattle.ss_base.specs.declared.ids.Place.{Place};
+ghost use Rattle.std.specs.Prelude.{◌≡◌, [], map, IfOk};
 ghost use Rattle.segment_plan.specs.Plan.{place_from, left_from, placed_behind};
 ghost use Rattle.segment_plan.specs.Placing.{IsThere, AreThere};
 

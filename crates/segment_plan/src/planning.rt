@@ -1,7 +1,5 @@
 // The plan of a segment.
 ghost use Rattle.std.specs.Prelude.{◌≡◌, ◌+◌, ◌<◌, ◌≤◌, ◌^◌, map, length, vec_len, IfOk};
-ghost use Rattle.std.specs.List.{sum_by};
-ghost use Rattle.ss_base.specs.declared.name.Piece.{Piece};
 ghost use Rattle.container_file.specs.Chunk.{marked};
 ghost use Rattle.lack_plan.specs.Plan.{is_fresh_origin};
 ghost use Rattle.segment_plan.specs.Planned.{segment_chunks, located, total_len, IsPlanOf, CanBeStored};
@@ -12,7 +10,7 @@ use container_file::{ContainerEnd, plan};
 use lack_plan::{Origin, lacks};
 use manifest_codec::{Manifest, containers, content, encode};
 use segmenter::Segment;
-use ss_base::{MAX_CHAMPIONS, MAX_CHUNKS, Memory, Piece};
+use ss_base::{MAX_CHAMPIONS, Memory, Piece};
 use std::alloc::Global;
 
 /// Plans what is stored of a segment against these champions, behind what the session has stored. `room` is that of
