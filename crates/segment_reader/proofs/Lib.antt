@@ -1,0 +1,5 @@
+pub mod WholeLaws
+pub mod GroupingLaws
+pub mod NextLaws
+pub mod ReadLaws
+pub mod AnswerLaws
