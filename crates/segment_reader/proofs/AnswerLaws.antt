@@ -72,6 +72,13 @@ pending_of (Some s) ended read len pending before got after n is more count next
     let parts = ap length next.bytes ∙ length-append (concat next.chunks) after in
     omega (arith, length-append before got, parts, ap length next.has.bytes)
 
+len_of : (segment : Option Segment) (ended : Bool) (read len pending : ℕ) (before got after : List ℕ) (n : Numbers) → HasLen segment len → read ≡ length got → pending ≡ length before
+    → MatchOption segment ((ended ≡ true) × (before ++ got ≡ [])) (λ s. IsNext n ended s (before ++ got) after) → len ≤ pending + read
+len_of None ended read len pending before got after n is more count none = omega arith
+len_of (Some s) ended read len pending before got after n is more count next =
+    let parts = ap length next.bytes ∙ length-append (concat next.chunks) after in
+    omega (arith, length-append before got, parts, ap length next.has.bytes)
+
 module _ (work : WorkState) (after : List ℕ) (source source' : SourceView) (within : work.taken ≤ work.limit) where
   pub gave-segment : (found : Found) (segment : Segment) → found.segment ≡ Some segment → HasFound work.numbers (work.limit - work.taken) work.bytes after source source' found → GaveSegment work (answered work found after) source source' segment
   gave-segment found segment is has =
@@ -117,3 +124,7 @@ module _ (work : WorkState) (after : List ℕ) (source source' : SourceView) (wi
   -- the number of bytes that pend
   pub pending-after : (found : Found) (len : ℕ) → HasLen found.segment len → HasFound work.numbers (work.limit - work.taken) work.bytes after source source' found → work.pending ≡ length work.bytes → work.pending + found.read - len ≡ length after
   pending-after found len is has count = pending_of found.segment found.ended found.read len work.pending work.bytes has.got after work.numbers is has.count count has.next (λ ended. (has.end ended).1)
+
+  -- the segment is among the bytes that pended or were read
+  pub len-within : (found : Found) (len : ℕ) → HasLen found.segment len → HasFound work.numbers (work.limit - work.taken) work.bytes after source source' found → work.pending ≡ length work.bytes → len ≤ work.pending + found.read
+  len-within found len is has count = len_of found.segment found.ended found.read len work.pending work.bytes has.got after work.numbers is has.count count has.next

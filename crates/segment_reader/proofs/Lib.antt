@@ -3,3 +3,4 @@ pub mod GroupingLaws
 pub mod NextLaws
 pub mod ReadLaws
 pub mod AnswerLaws
+pub mod WorkLaws

@@ -1,5 +1,5 @@
 -- Laws of what a call reads.
-use Rattle.std.proofs.Common.{◌≡◌, ℕ, ◌+◌, ◌<◌, ◌≤◌, Bool, true, false, List, [], ◌++◌, length, Option, Some, None, refl, sym, ap, ◌∙◌, subst, arith, lit≤, append_assoc, length-append}
+use Rattle.std.proofs.Common.{◌≡◌, ℕ, ◌+◌, ◌*◌, ◌<◌, ◌≤◌, Bool, true, false, List, [], ◌++◌, length, Option, Some, None, refl, sym, ap, ◌∙◌, subst, arith, lit≤, append_assoc, length-append}
 use Rattle.std.specs.Prelude.{MatchOption}
 use Rattle.std.specs.Io.KnownBytes.{Keeps}
 use Rattle.std.proofs.KnownBytes.{Consumes-nil, Consumes-trans, Consumes-kept}
@@ -11,7 +11,9 @@ use Rattle.outside.specs.declared.trouble.Trouble.{Trouble}
 use Rattle.outside.specs.declared.trouble.Trouble.TheVariants as trouble
 use Rattle.segmenter.specs.declared.segment.Segment.{Segment}
 use Rattle.segment_reader.specs.declared.reading.Found.{Found}
-use Rattle.segment_reader.specs.Whole.{has_segment}
+use Rattle.segment_reader.specs.declared.grouping.Grouping.{Grouping}
+use Rattle.segment_reader.specs.Grouping.{numbers_in, bytes_in, HasNone}
+use Rattle.segment_reader.specs.Whole.{has_segment, above_pending}
 use Rattle.segment_reader.specs.Next.{IsNext}
 use Rattle.segment_reader.specs.Reads.{ReadsLate, unread, read, IsRead}
 use Rattle.segment_reader.specs.Cause.{next_fault, EndsWithin, EndsAbove, EndsFor}
@@ -119,6 +121,16 @@ module _ (n : Numbers) (before now : List ℕ) (source source' : SourceView) (co
     end = λ ended. absurd (false≢true ended);
     next = subst (λ (l : List ℕ). IsNext n false segment l after) so.bytes next;
   }
+
+-- what a stream with no whole segment says by the numbers that it began with
+pub none_whole : (g : Grouping) (n : Numbers) → numbers_in g ≡ n → HasNone g → has_segment n (bytes_in g) ≡ false
+none_whole g n same none = subst (λ (m : Numbers). has_segment m (bytes_in g) ≡ false) same none.segment
+
+-- with one more piece fewer bytes pend than may ever
+pub few_more : (g : Grouping) (n : Numbers) (piece now : List ℕ) → numbers_in g ≡ n → HasNone g → length piece ≤ 65536 → now ≡ bytes_in g ++ piece → length now < above_pending n
+few_more g n piece now same none most is =
+    let few : length (bytes_in g) < n.smax * n.tmax = subst (λ (m : Numbers). length (bytes_in g) < m.smax * m.tmax) same none.few in
+    omega (arith, few, most, ap length is, length-append (bytes_in g) piece)
 
 -- the trouble of a source is no cause of `TooLong`
 pub ends-trouble : (t : Trouble) (n : Numbers) (room : ℕ) (before : List ℕ) (source source' : SourceView) → EndsWithin n room before source source' → EndsFor (next_fault t) n room before source source'

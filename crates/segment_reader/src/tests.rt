@@ -41,12 +41,12 @@ fn read_all<S: Source>(
     Ok(segments)
 }
 
-// The segments of bytes that are cut all at once.
-fn group_all(alloc: Global, bytes: &[u8], profile: Profile) -> Result<Vec<Segment>, Memory> {
-    let mut segmenter = Segmenter::new(alloc, profile);
+// The segments of bytes that are cut all at once in a tiny store.
+fn group_all(alloc: Global, bytes: &[u8]) -> Result<Vec<Segment>, Memory> {
+    let mut segmenter = Segmenter::new(alloc, Profile::Tiny);
     let mut segments = Vec::new(alloc);
-    for chunk in &cut_all(alloc, profile, bytes)? {
-        if chunk.is_empty() || chunk.len() > profile.numbers().tmax as usize {
+    for chunk in &cut_all(alloc, Profile::Tiny, bytes)? {
+        if chunk.is_empty() || chunk.len() > 256 {
             continue;
         }
         if let Some(segment) = segmenter.add(chunk)? {
@@ -79,7 +79,10 @@ fn an_empty_source_has_no_segment(rt: HostRuntime) -> Result<(), Fail> {
     let mut source = zeros(alloc, 0, &[2])?;
     let mut work = Work::new(alloc, Profile::Large, 0)?;
     assert!(rt; next_segment(alloc, &mut source, &mut work)?.is_none());
-    assert!(rt; next_segment(alloc, &mut source, &mut work)?.is_none(), "the end is not read again");
+    assert!(rt;
+        next_segment(alloc, &mut source, &mut work)?.is_none(),
+        "the end is not read again"
+    );
     assert_eq!(rt; work.pending(), 0);
     assert!(rt; !work.spent());
     Ok(())
@@ -132,7 +135,7 @@ fn a_source_that_fails(rt: HostRuntime) -> Result<(), Fail> {
 fn segments_are_those_of_the_whole_stream(rt: HostRuntime) -> Result<(), Fail> {
     let alloc = rt.alloc();
     let bytes = scattered(alloc, 300_000)?;
-    let expected = group_all(alloc, &bytes, Profile::Tiny)?;
+    let expected = group_all(alloc, &bytes)?;
     let mut source = MemSource::new(bytes.clone()?, Vec::new(alloc));
     let segments = read_all(alloc, &mut source, Profile::Tiny)?;
     assert_eq!(rt; segments.len(), expected.len());
