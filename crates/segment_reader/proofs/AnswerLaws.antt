@@ -1,19 +1,19 @@
 -- Laws of the answers.
-use Rattle.std.proofs.Common.{◌≡◌, ℕ, ◌+◌, ◌-◌, ◌<◌, ◌≤◌, Bool, true, false, List, [], ◌∷◌, ◌++◌, length, Option, Some, None, refl, sym, ap, ◌∙◌, subst, arith, append_assoc, length-append, sum_by}
-use Rattle.std.specs.Prelude.{IfSome, IfNone, MatchOption}
+use Rattle.std.proofs.Common.{◌≡◌, ℕ, ◌+◌, ◌-◌, ◌≤◌, Bool, true, false, List, [], ◌∷◌, ◌++◌, length, Option, Some, None, refl, sym, ap, ◌∙◌, subst, arith, append_assoc, length-append, sum_by}
+use Rattle.std.specs.Prelude.{IfSome, MatchOption}
 use Rattle.std.specs.List.{All, concat}
 use Rattle.std.specs.Io.KnownBytes.{Consumes, IsAtEnd}
 use Rattle.std.proofs.lemmas.Bool.{false≢true}
 use Rattle.std.proofs.lemmas.List.Sums.{sum_by-cons}
 use Rattle.ss_base.specs.declared.name.Piece.{Piece}
 use Rattle.ss_base.specs.declared.profile.Numbers.{Numbers}
-use Rattle.outside.specs.Views.{SourceView, IsEnded}
+use Rattle.outside.specs.Views.{SourceView}
 use Rattle.chunk_name.specs.Pieces.{HasChunkLen}
 use Rattle.segmenter.specs.declared.segment.Segment.{Segment}
 use Rattle.segment_reader.specs.declared.reading.Found.{Found}
 use Rattle.segment_reader.specs.SegmentsOf.{segments_of}
 use Rattle.segment_reader.specs.Next.{IsNext}
-use Rattle.segment_reader.specs.Reads.{ReadsLate, IsRead}
+use Rattle.segment_reader.specs.Reads.{IsRead}
 use Rattle.segment_reader.specs.Found.{HasFound}
 use Rattle.segment_reader.specs.WorkState.{WorkState}
 use Rattle.segment_reader.specs.Answer.{TellsNext, GaveSegment, GaveNone}

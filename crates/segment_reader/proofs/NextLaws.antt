@@ -1,5 +1,5 @@
 -- Laws of the next segment of a stream.
-use Rattle.std.proofs.Common.{◌≡◌, ℕ, ◌<◌, ◌≤◌, ◌↔◌, Bool, true, false, List, [], ◌∷◌, ◌++◌, length, Option, Some, None, refl, sym, ap, ◌∙◌, subst, arith, append_assoc, if◌then◌else◌, is_some}
+use Rattle.std.proofs.Common.{◌≡◌, ℕ, ◌<◌, ◌≤◌, ◌↔◌, true, false, List, [], ◌∷◌, ◌++◌, length, Option, Some, None, refl, sym, ap, ◌∙◌, subst, arith, append_assoc, if◌then◌else◌, is_some}
 use Rattle.std.specs.Prelude.{IsSome, IfSome, MatchOption}
 use Rattle.std.specs.List.{concat}
 use Rattle.std.proofs.lemmas.Bool.{false≢true}
@@ -9,7 +9,6 @@ use Rattle.tttd_chunker.specs.Cut.{cut}
 use Rattle.segmenter.specs.declared.segment.Segment.{Segment}
 use Rattle.segmenter.specs.Segment.{HasChunks}
 use Rattle.segmenter.specs.Segments.{segments}
-use Rattle.segmenter.proofs.SegmentsLaws.{segments-nil}
 use Rattle.segment_reader.specs.declared.grouping.Grouping.{Grouping}
 use Rattle.segment_reader.specs.SegmentsOf.{segments_of}
 use Rattle.segment_reader.specs.Next.{IsNext}

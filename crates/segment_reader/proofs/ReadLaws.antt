@@ -1,5 +1,5 @@
 -- Laws of what a call reads.
-use Rattle.std.proofs.Common.{◌≡◌, ℕ, ◌+◌, ◌*◌, ◌<◌, ◌≤◌, Bool, true, false, List, [], ◌++◌, length, Option, Some, None, refl, sym, ap, ◌∙◌, subst, arith, lit≤, append_assoc, length-append}
+use Rattle.std.proofs.Common.{◌≡◌, ℕ, ◌+◌, ◌*◌, ◌<◌, ◌≤◌, true, false, List, [], ◌++◌, length, Option, Some, None, refl, sym, ap, ◌∙◌, subst, arith, lit≤, append_assoc, length-append}
 use Rattle.std.specs.Prelude.{MatchOption}
 use Rattle.std.specs.Io.KnownBytes.{Keeps}
 use Rattle.std.proofs.KnownBytes.{Consumes-nil, Consumes-trans, Consumes-kept}
@@ -10,12 +10,11 @@ use Rattle.outside.specs.Views.{SourceView, Gives, IsEnded}
 use Rattle.outside.specs.declared.trouble.Trouble.{Trouble}
 use Rattle.outside.specs.declared.trouble.Trouble.TheVariants as trouble
 use Rattle.segmenter.specs.declared.segment.Segment.{Segment}
-use Rattle.segment_reader.specs.declared.reading.Found.{Found}
 use Rattle.segment_reader.specs.declared.grouping.Grouping.{Grouping}
 use Rattle.segment_reader.specs.Grouping.{numbers_in, bytes_in, HasNone}
 use Rattle.segment_reader.specs.Whole.{has_segment, above_pending}
 use Rattle.segment_reader.specs.Next.{IsNext}
-use Rattle.segment_reader.specs.Reads.{ReadsLate, unread, read, IsRead}
+use Rattle.segment_reader.specs.Reads.{unread, read, IsRead}
 use Rattle.segment_reader.specs.Cause.{next_fault, EndsWithin, EndsAbove, EndsFor}
 use Rattle.segment_reader.specs.Found.{HasFound}
 

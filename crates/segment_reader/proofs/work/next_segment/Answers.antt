@@ -1,4 +1,3 @@
-use Rattle.std.proofs.Common.{◌≡◌}
 use Rattle.outside.specs.Views.{source_view}
 use Rattle.segment_reader.proofs.WorkLaws.{some_of, none_of, has_len, len_fits, gives_some, gives_none, few_pend, kept_behind}
 use Rattle.segment_reader.proofs.work.next_segment.Goals as goal

@@ -1,9 +1,9 @@
-use Rattle.std.proofs.Common.{◌≡◌, false, [], ◌++◌, ◌∷◌, List, ℕ, sym, ap, ◌∙◌, subst}
+use Rattle.std.proofs.Common.{◌≡◌, false, List, ℕ, sym, ap, ◌∙◌, subst}
 use Rattle.std.proofs.lemmas.Bool.{false≢true}
 use Rattle.ss_base.specs.declared.profile.Numbers.{Numbers}
 use Rattle.ss_base.specs.Profile.{numbers_of}
 use Rattle.segment_reader.specs.declared.grouping.Grouping.{Grouping}
-use Rattle.segment_reader.specs.Grouping.{numbers_in, bytes_in, IsInStep, HasNone}
+use Rattle.segment_reader.specs.Grouping.{numbers_in, bytes_in, HasNone}
 use Rattle.segment_reader.specs.Next.{IsNext}
 use Rattle.segment_reader.proofs.GroupingLaws.{TakesChunk, in_step-more, bytes_in-more, has_none}
 use Rattle.segment_reader.proofs.NextLaws.{next-ends}

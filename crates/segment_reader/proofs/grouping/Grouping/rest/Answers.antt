@@ -1,9 +1,8 @@
-use Rattle.std.proofs.Common.{◌≡◌, [], ◌++◌, ◌∷◌, List, ℕ, length, sym, ap, ◌∙◌, subst, arith, if◌then◌else◌, is_some}
+use Rattle.std.proofs.Common.{◌≡◌, [], ◌++◌, ◌∷◌, List, ℕ, sym, ap, ◌∙◌, subst, if◌then◌else◌, is_some}
 use Rattle.std.specs.List.{concat}
 use Rattle.std.proofs.lemmas.Bool.{false≢true}
 use Rattle.std.proofs.lemmas.List.{append-nil}
 use Rattle.ss_base.specs.declared.profile.Numbers.{Numbers}
-use Rattle.tttd_chunker.specs.Cut.{cut}
 use Rattle.segmenter.specs.Segments.{segments}
 use Rattle.segmenter.proofs.SegmentsLaws.{segments-nil}
 use Rattle.segment_reader.specs.Grouping.{numbers_in, bytes_in}
