@@ -1,0 +1,15 @@
+pub mod SegmentsOf
+pub mod Whole
+pub mod Grouping
+pub mod Next
+pub mod Reads
+pub mod Found
+pub mod WorkState
+pub mod Cause
+pub mod Answer
+pub mod Kept
+pub use Rattle.outside.specs.Views
+pub use Rattle.outside.specs.Faults
+pub use Rattle.segmenter.specs.Segment
+pub use Rattle.segmenter.specs.Segments
+pub use Rattle.tttd_chunker.specs.Cut
