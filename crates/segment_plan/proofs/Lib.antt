@@ -1,0 +1,7 @@
+pub mod ChunkLaws
+pub mod StepLaws
+pub mod LieLaws
+pub mod PlacingLaws
+pub mod UseLaws
+pub mod PutLaws
+pub mod PlannedLaws
