@@ -14,8 +14,8 @@ use Rattle.history.specs.Need.{commits_manifest}
 use Rattle.history_laws.proofs.Allowed.{IsStep}
 use Rattle.history_laws.proofs.SessionLaws.{has_older}
 use Rattle.history_laws.proofs.OnceLaws.{never_twice}
-use Rattle.stored_streams.specs.Streams.{Streams, pieces_of}
-use Rattle.stored_streams.specs.Plans.{places_of, plans_of, text_of}
+use Rattle.stored_streams.specs.Streams.{Streams, manifest_pieces}
+use Rattle.stored_streams.specs.Plans.{planned_places, plans_of, text_of}
 use Rattle.stored_streams.specs.Collision.{IsChosenChunk, IsCommittedText, IsHashed, Collide}
 use Rattle.stored_streams.proofs.PlanLaws.{places_stay}
 
@@ -30,7 +30,7 @@ pub text_stays : (n : Numbers) (streams : Streams) (rules : Rules) (entry : Entr
 unfolding text_of plans_of
 text_stays n streams rules entry past id now committed = elim (cases_Bool (commits_manifest id entry.point)) [
   | inl again ↦ absurd (never_twice rules id entry past now again committed)
-  | inr other ↦ ap (λ (ps : List Place). manifest_text (pieces_of n streams id) ps) (places_stay n streams past id entry.point (plans_of n streams past) other)
+  | inr other ↦ ap (λ (ps : List Place). manifest_text (manifest_pieces n streams id) ps) (places_stay n streams past id entry.point (plans_of n streams past) other)
 ]
 
 hashed_more : (n : Numbers) (streams : Streams) (rules : Rules) (entry : Entry) (past : List Entry) (given : List ℕ → Type 0) (bytes : List ℕ) → IsStep rules entry past → IsHashed n streams past given bytes → IsHashed n streams (entry ∷ past) given bytes

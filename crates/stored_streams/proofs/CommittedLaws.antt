@@ -29,8 +29,8 @@ use Rattle.history.specs.Legal.{is_legal}
 use Rattle.history_laws.proofs.Allowed.{IsStep, step, commit_says}
 use Rattle.history_laws.proofs.SessionLaws.{has_cases, has_none}
 use Rattle.store_core.specs.View.{KeptView, kept, kept_by, made}
-use Rattle.stored_streams.specs.Streams.{Streams, chunks_of, pieces_of}
-use Rattle.stored_streams.specs.Plans.{Planned, places_of, located_of, plan_for, next_plan, plans_after, plans_of, text_of}
+use Rattle.stored_streams.specs.Streams.{Streams, manifest_chunks, manifest_pieces}
+use Rattle.stored_streams.specs.Plans.{Planned, planned_places, located_of, plan_for, next_plan, plans_after, plans_of, text_of}
 use Rattle.stored_streams.specs.OfStreams.{ContentOf, StoredOf, EachEntry, HasContents, HasStored}
 use Rattle.stored_streams.proofs.SegmentLaws.{pieces_sized, pieces_named}
 use Rattle.stored_streams.proofs.PlaceLaws.{Each, IsWithin}
@@ -41,10 +41,10 @@ pub record IsKeptOf (n : Numbers) (streams : Streams) (past : List Entry) (id : 
   pub view : KeptView
   pub kept_is : kept id past ≡ Some view
   pub digest : view.text ≡ name_of_bytes (text_of n streams id past)
-  pub some : 1 ≤ length (pieces_of n streams id)
-  pub most : length (pieces_of n streams id) ≤ MAX_CHUNKS
-  pub count : length (places_of id (plans_of n streams past)) ≡ length (chunks_of n streams id)
-  pub fits : Each (λ (p : Place). FitsContainer p.container) (places_of id (plans_of n streams past))
+  pub some : 1 ≤ length (manifest_pieces n streams id)
+  pub most : length (manifest_pieces n streams id) ≤ MAX_CHUNKS
+  pub count : length (planned_places id (plans_of n streams past)) ≡ length (manifest_chunks n streams id)
+  pub fits : Each (λ (p : Place). FitsContainer p.container) (planned_places id (plans_of n streams past))
 
 kept_here : (id : ManifestId) (entry : Entry) (past : List Entry) → commits_manifest id entry.point ≡ true → kept id (entry ∷ past) ≡ kept_by entry.point
 unfolding kept newest
@@ -90,7 +90,7 @@ kept_commit n streams rules author id content text chunks bytes fresh fresh_byte
     let e = made author (Commit id content text chunks bytes fresh fresh_bytes uses) in
     let plans = plans_of n streams past in
     let plan = next_plan n streams past id plans in
-    let places : places_of id (plan ∷ plans) ≡ plan.places = places_newest id plan plans refl in
+    let places : planned_places id (plan ∷ plans) ≡ plan.places = places_newest id plan plans refl in
     let said = commit_says rules past author id content text chunks bytes fresh fresh_bytes uses now.allowed in
     let counts = counts_are chunks bytes fresh fresh_bytes said.counted in
     let many = contents.chunk_count in
@@ -98,7 +98,7 @@ kept_commit n streams rules author id content text chunks bytes fresh fresh_byte
     record {
       view = record { id = id; text = text; content = content; chunks = chunks; uses = uses };
       kept_is = kept_here id e past (same_manifest-self id);
-      digest = stored.digest ∙ ap (λ (ps : List Place). name_of_bytes (manifest_text (pieces_of n streams id) ps)) (sym places);
+      digest = stored.digest ∙ ap (λ (ps : List Place). name_of_bytes (manifest_text (manifest_pieces n streams id) ps)) (sym places);
       some = subst (λ (k : ℕ). 1 ≤ k) many counts.0;
       most = subst (λ (k : ℕ). k ≤ MAX_CHUNKS) many counts.1;
       count = ap length places ∙ (each plan (inl refl)).count;
@@ -115,11 +115,11 @@ kept_now n streams rules author _ past id sound now entry contents stored does =
 kept_before : (n : Numbers) (streams : Streams) (entry : Entry) (past : List Entry) (id : ManifestId) → commits_manifest id entry.point ≡ false → IsKeptOf n streams past id → IsKeptOf n streams (entry ∷ past) id
 unfolding plans_of text_of
 kept_before n streams entry past id other older =
-    let stay : places_of id (plans_of n streams (entry ∷ past)) ≡ places_of id (plans_of n streams past) = places_stay n streams past id entry.point (plans_of n streams past) other in
+    let stay : planned_places id (plans_of n streams (entry ∷ past)) ≡ planned_places id (plans_of n streams past) = places_stay n streams past id entry.point (plans_of n streams past) other in
     record {
       view = older.view;
       kept_is = kept_older id entry past other ∙ older.kept_is;
-      digest = older.digest ∙ ap (λ (ps : List Place). name_of_bytes (manifest_text (pieces_of n streams id) ps)) (sym stay);
+      digest = older.digest ∙ ap (λ (ps : List Place). name_of_bytes (manifest_text (manifest_pieces n streams id) ps)) (sym stay);
       some = older.some;
       most = older.most;
       count = ap length stay ∙ older.count;
@@ -139,10 +139,10 @@ committed_kept n streams rules (entry ∷ past) id sound legal entries contents 
     ]
 
 -- its pieces and places are a manifest's
-pub committed_manifest : (n : Numbers) (streams : Streams) (past : List Entry) (id : ManifestId) → AreSound n → IsKeptOf n streams past id → AreManifest (pieces_of n streams id) (places_of id (plans_of n streams past))
-unfolding pieces_of
+pub committed_manifest : (n : Numbers) (streams : Streams) (past : List Entry) (id : ManifestId) → AreSound n → IsKeptOf n streams past id → AreManifest (manifest_pieces n streams id) (planned_places id (plans_of n streams past))
+unfolding manifest_pieces
 committed_manifest n streams past id sound is =
-    let places = places_of id (plans_of n streams past) in
+    let places = planned_places id (plans_of n streams past) in
     let within = places_of_within n streams id (plans_of n streams past) (plans_sound n streams past sound) in
     let room = sound.container in
     record {
@@ -150,7 +150,7 @@ committed_manifest n streams past id sound is =
         some = is.some;
         bounded = is.most;
         lengths = pieces_sized n streams id sound;
-        located = is.count ∙ sym (length-map (chunks_of n streams id) piece);
+        located = is.count ∙ sym (length-map (manifest_chunks n streams id) piece);
       };
       names = pieces_named n streams id;
       numbers = All-from_in IsPlace places (λ p h.

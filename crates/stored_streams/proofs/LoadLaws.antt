@@ -17,7 +17,7 @@ use Rattle.manifest_codec.specs.Text.{AreManifest, manifest_text}
 use Rattle.manifest_codec.proofs.TextLaws as text
 use Rattle.container_file.specs.declared.container_end.ContainerEnd.{ContainerEnd}
 use Rattle.container_file.proofs.LayoutLaws.{end_bounds}
-use Rattle.segment_plan.specs.Plan.{Located, fresh_of, end_against}
+use Rattle.segment_plan.specs.Plan.{Located, pieces_of, fresh_of, end_against}
 use Rattle.journal_entry.specs.declared.entry.Entry.{Entry}
 use Rattle.journal_entry.specs.declared.entry.Point.{Point}
 use Rattle.journal_entry.specs.declared.entry.Point.TheVariants.{Commit, Finish, Abort}
@@ -29,8 +29,8 @@ use Rattle.history.specs.Legal.{is_legal}
 use Rattle.history_laws.proofs.Allowed.{IsStep, step}
 use Rattle.history_laws.proofs.LiveLaws.{pending_committed}
 use Rattle.store_core.specs.View.{made}
-use Rattle.stored_streams.specs.Streams.{Streams, chunks_of, pieces_of}
-use Rattle.stored_streams.specs.Plans.{Planned, places_of, located_of, plan_for, next_plan, plans_after, plans_of, end_of, text_of}
+use Rattle.stored_streams.specs.Streams.{Streams, manifest_chunks, manifest_pieces}
+use Rattle.stored_streams.specs.Plans.{Planned, planned_places, located_of, plan_for, next_plan, plans_after, plans_of, end_of, text_of}
 use Rattle.stored_streams.specs.OfStreams.{next_of, ContentOf, StoredOf, AbortsWith, EndOf, EachEntry, HasContents, HasStored, IsOfStreams, StoresSegment}
 use Rattle.stored_streams.specs.Collision.{Collide}
 use Rattle.stored_streams.specs.Loads.{Loads, loaded_text, loaded_after, loaded_plans, IsLoadOf, AreLoadsOf, AbortsLoaded, LoadedOf, StoresLoaded}
@@ -56,13 +56,13 @@ record IsKnown (n : Numbers) (streams : Streams) (rules : Rules) (past : List En
   pub stored : EachEntry (StoredOf n streams) past
 
 located_one : Numbers → Streams → List Planned → ManifestId → Located
-located_one n streams plans id = record { pieces = pieces_of n streams id; places = places_of id plans }
+located_one n streams plans id = record { pieces = manifest_pieces n streams id; places = planned_places id plans }
 
-text_is : (n : Numbers) (streams : Streams) (past : List Entry) (id : ManifestId) (l : Located) → loaded_text l ≡ text_of n streams id past → manifest_text l.pieces l.places ≡ manifest_text (pieces_of n streams id) (places_of id (plans_of n streams past))
+text_is : (n : Numbers) (streams : Streams) (past : List Entry) (id : ManifestId) (l : Located) → loaded_text l ≡ text_of n streams id past → manifest_text l.pieces l.places ≡ manifest_text (manifest_pieces n streams id) (planned_places id (plans_of n streams past))
 unfolding text_of
 text_is n streams past id l same = same
 
-collision : (n : Numbers) (streams : Streams) (given : List ℕ → Type 0) (past : List Entry) (id : ManifestId) (l : Located) → has (commits_manifest id) past ≡ true → name_of_bytes (loaded_text l) ≡ name_of_bytes (text_of n streams id past) → loaded_text l ≢ text_of n streams id past → given (loaded_text l) ⊎ (loaded_text l ≡ manifest_text (pieces_of n streams id) (places_of id (plans_of n streams past))) → Collide n streams past given
+collision : (n : Numbers) (streams : Streams) (given : List ℕ → Type 0) (past : List Entry) (id : ManifestId) (l : Located) → has (commits_manifest id) past ≡ true → name_of_bytes (loaded_text l) ≡ name_of_bytes (text_of n streams id past) → loaded_text l ≢ text_of n streams id past → given (loaded_text l) ⊎ (loaded_text l ≡ manifest_text (manifest_pieces n streams id) (planned_places id (plans_of n streams past))) → Collide n streams past given
 unfolding text_of
 collision n streams given past id l committed digest differ (inl read) = record {
   one = loaded_text l;
@@ -83,7 +83,7 @@ one_load n streams rules given past id l known committed is =
     let digest : name_of_bytes (loaded_text l) ≡ name_of_bytes (text_of n streams id past) = is.digest kept.view kept.kept_is ∙ kept.digest in
     elim (same_bytes (loaded_text l) (text_of n streams id past)) [
       | inl same ↦
-          let both = text.same_manifest l.pieces (pieces_of n streams id) l.places (places_of id plans) is.manifest (committed_manifest n streams past id known.sound kept) (text_is n streams past id l same) in
+          let both = text.same_manifest l.pieces (manifest_pieces n streams id) l.places (planned_places id plans) is.manifest (committed_manifest n streams past id known.sound kept) (text_is n streams past id l same) in
           inl (λ i. record { pieces = both.0 i; places = both.1 i })
       | inr differ ↦ inr (collision n streams given past id l committed digest differ is.source)
     ]
@@ -115,7 +115,7 @@ loads_are n streams rules given past session ls known are =
 
 no_fewer : (n : Numbers) (streams : Streams) (id : ManifestId) (located : List Located) (plans : List Planned) → (end_of id.session plans).containers ≤ (plan_for n streams id located plans).end.containers
 unfolding plan_for end_against
-no_fewer n streams id located plans = (end_bounds (end_of id.session plans) n.room (fresh_of (chunks_of n streams id) (map (λ (l : Located). l.pieces) located))).0
+no_fewer n streams id located plans = (end_bounds (end_of id.session plans) n.room (fresh_of (manifest_chunks n streams id) (pieces_of located))).0
 
 -- ---- one entry more
 

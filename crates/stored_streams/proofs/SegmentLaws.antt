@@ -18,7 +18,7 @@ use Rattle.segmenter.specs.Segments.{segments, first_count}
 use Rattle.segment_reader.specs.SegmentsOf.{segments_of}
 use Rattle.chunk_name.specs.Pieces.{piece, HasChunkLen}
 use Rattle.chunk_name.proofs.NameLaws.{length-name_of_bytes}
-use Rattle.stored_streams.specs.Streams.{Streams, chunks_of, pieces_of}
+use Rattle.stored_streams.specs.Streams.{Streams, manifest_chunks, manifest_pieces}
 
 drop_in : {X : Type 0} (x : X) (n : ℕ) (xs : List X) → In x (drop n xs) → In x xs
 drop_in x zero xs h = h
@@ -46,8 +46,8 @@ sized_in n (c ∷ chunks) chunk (some, most, least, rest) (inl is) = subst (λ (
 sized_in n (c ∷ chunks) chunk (some, most, least, rest) (inr later) = sized_in n chunks chunk rest later
 
 -- a chunk of a manifest's segment has the length of a chunk
-pub chunk_sized : (n : Numbers) (streams : Streams) (id : ManifestId) (chunk : List ℕ) → AreSound n → In chunk (chunks_of n streams id) → (0 < length chunk) × (length chunk ≤ n.tmax)
-unfolding chunks_of segments_of segments parts
+pub chunk_sized : (n : Numbers) (streams : Streams) (id : ManifestId) (chunk : List ℕ) → AreSound n → In chunk (manifest_chunks n streams id) → (0 < length chunk) × (length chunk ≤ n.tmax)
+unfolding manifest_chunks segments_of segments parts
 chunk_sized n streams id chunk sound h =
     let bytes = streams id.session in
     let found = item_in (segments n (cut n bytes)) id.seq chunk h in
@@ -58,14 +58,14 @@ piece_sized : (n : Numbers) (chunk : List ℕ) → AreSound n → (0 < length ch
 piece_sized n chunk sound (some, most) = let limit = sound.chunk in (omega (arith, some), omega (arith, most, limit))
 
 -- so have its pieces, and their names are digests
-pub pieces_sized : (n : Numbers) (streams : Streams) (id : ManifestId) → AreSound n → All HasChunkLen (pieces_of n streams id)
-unfolding pieces_of
-pieces_sized n streams id sound = All-from_in HasChunkLen (map piece (chunks_of n streams id)) (λ p h.
-    let from = map_in piece p (chunks_of n streams id) h in
+pub pieces_sized : (n : Numbers) (streams : Streams) (id : ManifestId) → AreSound n → All HasChunkLen (manifest_pieces n streams id)
+unfolding manifest_pieces
+pieces_sized n streams id sound = All-from_in HasChunkLen (map piece (manifest_chunks n streams id)) (λ p h.
+    let from = map_in piece p (manifest_chunks n streams id) h in
     subst HasChunkLen from.2 (piece_sized n from.0 sound (chunk_sized n streams id from.0 sound from.1)))
 
-pub pieces_named : (n : Numbers) (streams : Streams) (id : ManifestId) → All (λ (p : Piece). length p.name.0 ≡ 32) (pieces_of n streams id)
-unfolding pieces_of
-pieces_named n streams id = All-from_in (λ (p : Piece). length p.name.0 ≡ 32) (map piece (chunks_of n streams id)) (λ p h.
-    let from = map_in piece p (chunks_of n streams id) h in
+pub pieces_named : (n : Numbers) (streams : Streams) (id : ManifestId) → All (λ (p : Piece). length p.name.0 ≡ 32) (manifest_pieces n streams id)
+unfolding manifest_pieces
+pieces_named n streams id = All-from_in (λ (p : Piece). length p.name.0 ≡ 32) (map piece (manifest_chunks n streams id)) (λ p h.
+    let from = map_in piece p (manifest_chunks n streams id) h in
     subst (λ (q : Piece). length q.name.0 ≡ 32) from.2 (length-name_of_bytes from.0))

@@ -7,14 +7,14 @@ use Rattle.chunk_name.specs.Pieces.{name_of_bytes}
 use Rattle.journal_entry.specs.declared.entry.Entry.{Entry}
 use Rattle.history.specs.Sessions.{has, chooses}
 use Rattle.history.specs.Need.{commits_manifest}
-use Rattle.stored_streams.specs.Streams.{Streams, chunks_of}
+use Rattle.stored_streams.specs.Streams.{Streams, manifest_chunks}
 use Rattle.stored_streams.specs.Plans.{text_of}
 
 -- a chunk of a segment that the history chose for
 pub record IsChosenChunk (n : Numbers) (streams : Streams) (past : List Entry) (bytes : List ℕ) : Type 0 where
   pub id : ManifestId
   pub chosen : id.seq < count_by (λ (entry : Entry). chooses id.session entry.point) past
-  pub chunk : Contains (chunks_of n streams id) bytes
+  pub chunk : Contains (manifest_chunks n streams id) bytes
 
 -- the text of a manifest that the history commits
 pub record IsCommittedText (n : Numbers) (streams : Streams) (past : List Entry) (bytes : List ℕ) : Type 0 where

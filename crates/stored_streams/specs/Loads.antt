@@ -10,8 +10,8 @@ use Rattle.journal_entry.specs.declared.entry.Point.{Point}
 use Rattle.journal_entry.specs.declared.entry.Point.TheVariants.{Commit, Finish, Abort}
 use Rattle.history.specs.Sessions.{is_pending, pending_champions}
 use Rattle.store_core.specs.View.{KeptView, kept}
-use Rattle.stored_streams.specs.Streams.{Streams, pieces_of}
-use Rattle.stored_streams.specs.Plans.{Planned, places_of, end_of, plan_for, plans_of}
+use Rattle.stored_streams.specs.Streams.{Streams, manifest_pieces}
+use Rattle.stored_streams.specs.Plans.{Planned, planned_places, end_of, plan_for, plans_of}
 use Rattle.stored_streams.specs.OfStreams.{next_of, StoresSegment}
 
 -- the manifests that were loaded for the segment of a manifest
@@ -38,7 +38,7 @@ loaded_plans n streams loads (entry ∷ newer) older = loaded_after n streams lo
 pub record IsLoadOf (n : Numbers) (streams : Streams) (given : List ℕ → Type 0) (past : List Entry) (plans : List Planned) (champion : ManifestId) (located : Located) : Type 0 where
   pub manifest : AreManifest located.pieces located.places
   pub digest : (view : KeptView) → kept champion past ≡ Some view → name_of_bytes (loaded_text located) ≡ view.text
-  pub source : given (loaded_text located) ⊎ (loaded_text located ≡ manifest_text (pieces_of n streams champion) (places_of champion plans))
+  pub source : given (loaded_text located) ⊎ (loaded_text located ≡ manifest_text (manifest_pieces n streams champion) (planned_places champion plans))
 
 -- one manifest was loaded for each champion, in their order
 abbrev pub AreLoadsOf : Numbers → Streams → (List ℕ → Type 0) → List Entry → List Planned → List ManifestId → List Located → Type 0

@@ -10,12 +10,13 @@ use Rattle.manifest_codec.specs.Text.{manifest_text}
 use Rattle.manifest_codec.specs.PiecesPart.{pieces_part}
 use Rattle.manifest_codec.specs.Containers.{AreContainers}
 use Rattle.container_file.specs.Chunk.{Chunk}
-use Rattle.segment_plan.specs.Plan.{Located, fresh_of}
+use Rattle.segment_plan.specs.Plan.{Located, pieces_of, fresh_of}
+use Rattle.segment_plan.specs.Planned.{total_len}
 use Rattle.journal_entry.specs.declared.entry.Entry.{Entry}
 use Rattle.journal_entry.specs.declared.entry.Point.{Point}
 use Rattle.journal_entry.specs.declared.entry.Point.TheVariants.{Choose, Commit, Finish, Abort}
 use Rattle.history.specs.Sessions.{commits_of, is_pending, pending_champions}
-use Rattle.stored_streams.specs.Streams.{Streams, segment_count, chunks_of, pieces_of, bytes_of}
+use Rattle.stored_streams.specs.Streams.{Streams, segment_count, manifest_chunks, manifest_pieces}
 use Rattle.stored_streams.specs.Plans.{Planned, located_of, plan_for, plans_of, end_of}
 
 -- the manifest of the session's next commit
@@ -27,14 +28,14 @@ next_of session past = record { session = session; seq = commits_of session past
 -- a choice is for the session's next segment, and has its hooks
 pub record ChoosesSegment (n : Numbers) (streams : Streams) (past : List Entry) (session : ℕ) (chosen : List Name) : Type 0 where
   pub there : commits_of session past < segment_count n streams session
-  pub hooks_are : chosen ≡ hooks n.bits (pieces_of n streams (next_of session past))
+  pub hooks_are : chosen ≡ hooks n.bits (manifest_pieces n streams (next_of session past))
 
 -- a commit has its segment's number of chunks, bytes and content digest
 pub record HoldsSegment (n : Numbers) (streams : Streams) (id : ManifestId) (content : Name) (chunks bytes : ℕ) : Type 0 where
   pub there : id.seq < segment_count n streams id.session
-  pub chunk_count : chunks ≡ length (pieces_of n streams id)
-  pub byte_count : bytes ≡ bytes_of (pieces_of n streams id)
-  pub digest : content ≡ name_of_bytes (pieces_part (pieces_of n streams id))
+  pub chunk_count : chunks ≡ length (manifest_pieces n streams id)
+  pub byte_count : bytes ≡ total_len (manifest_pieces n streams id)
+  pub digest : content ≡ name_of_bytes (pieces_part (manifest_pieces n streams id))
 
 abbrev pub ContentOf : Numbers → Streams → List Entry → Point → Type 0
 ContentOf n streams past (Choose session chosen champions) = ChoosesSegment n streams past session chosen
@@ -51,10 +52,10 @@ IsComplete n streams past _ = Unit {0}
 -- Of a segment that is planned against what is located, behind these plans: the numbers of its fresh chunks, the
 -- containers of its places, and its text's digest.
 pub record StoresSegment (n : Numbers) (streams : Streams) (id : ManifestId) (located : List Located) (plans : List Planned) (text : Name) (fresh fresh_bytes : ℕ) (uses : List ContainerId) : Type 0 where
-  pub fresh_count : fresh ≡ length (fresh_of (chunks_of n streams id) (map (λ (l : Located). l.pieces) located))
-  pub fresh_sum : fresh_bytes ≡ bytes_of (map (λ (c : Chunk). c.piece) (fresh_of (chunks_of n streams id) (map (λ (l : Located). l.pieces) located)))
+  pub fresh_count : fresh ≡ length (fresh_of (manifest_chunks n streams id) (pieces_of located))
+  pub fresh_sum : fresh_bytes ≡ total_len (map (λ (c : Chunk). c.piece) (fresh_of (manifest_chunks n streams id) (pieces_of located)))
   pub containers : AreContainers (plan_for n streams id located plans).places uses
-  pub digest : text ≡ name_of_bytes (manifest_text (pieces_of n streams id) (plan_for n streams id located plans).places)
+  pub digest : text ≡ name_of_bytes (manifest_text (manifest_pieces n streams id) (plan_for n streams id located plans).places)
 
 -- a commit stores its segment against its session's pending champions
 abbrev pub StoredOf : Numbers → Streams → List Entry → Point → Type 0

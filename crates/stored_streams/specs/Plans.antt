@@ -13,7 +13,7 @@ use Rattle.journal_entry.specs.declared.entry.Entry.{Entry}
 use Rattle.journal_entry.specs.declared.entry.Point.{Point}
 use Rattle.journal_entry.specs.declared.entry.Point.TheVariants.{Commit}
 use Rattle.history.specs.Sessions.{pending_champions}
-use Rattle.stored_streams.specs.Streams.{Streams, chunks_of, pieces_of}
+use Rattle.stored_streams.specs.Streams.{Streams, manifest_chunks, manifest_pieces}
 
 -- of a manifest: where its chunks lie, its fresh chunks with their places, and the containers of its session behind it
 pub record Planned : Type 0 where
@@ -30,8 +30,8 @@ unfoldable pub last_plan : ℕ → List Planned → Option Planned
 last_plan session plans = find (λ (p : Planned). p.id.session == session) plans
 
 -- where the chunks of a manifest lie
-unfoldable pub places_of : ManifestId → List Planned → List Place
-places_of id plans = unwrap_or (option_map (λ (p : Planned). p.places) (plan_of id plans)) []
+unfoldable pub planned_places : ManifestId → List Planned → List Place
+planned_places id plans = unwrap_or (option_map (λ (p : Planned). p.places) (plan_of id plans)) []
 
 -- the containers of a session that has nothing stored
 abbrev pub no_containers : ℕ → ContainerEnd
@@ -48,7 +48,7 @@ laid_of session (p ∷ plans) = if p.id.session == session then laid_of session 
 
 -- manifests as a segment is planned against them
 unfoldable pub located_of : Numbers → Streams → List ManifestId → List Planned → List Located
-located_of n streams ids plans = map (λ id. record { pieces = pieces_of n streams id; places = places_of id plans }) ids
+located_of n streams ids plans = map (λ id. record { pieces = manifest_pieces n streams id; places = planned_places id plans }) ids
 
 -- the plan for a manifest behind these, whose segment is planned against what is located
 unfoldable pub plan_for : Numbers → Streams → ManifestId → List Located → List Planned → Planned
@@ -56,9 +56,9 @@ plan_for n streams id located plans =
     let end = end_of id.session plans in
     record {
       id = id;
-      places = places_against (chunks_of n streams id) located end n.room;
-      laid = laid_against (chunks_of n streams id) located end n.room;
-      end = end_against (chunks_of n streams id) located end n.room;
+      places = places_against (manifest_chunks n streams id) located end n.room;
+      laid = laid_against (manifest_chunks n streams id) located end n.room;
+      end = end_against (manifest_chunks n streams id) located end n.room;
     }
 
 -- the plan for a manifest against its session's pending champions
@@ -77,7 +77,7 @@ plans_of n streams (entry ∷ past) = plans_after n streams past entry.point (pl
 
 -- the text of a manifest
 unfoldable pub text_of : Numbers → Streams → ManifestId → List Entry → List ℕ
-text_of n streams id past = manifest_text (pieces_of n streams id) (places_of id (plans_of n streams past))
+text_of n streams id past = manifest_text (manifest_pieces n streams id) (planned_places id (plans_of n streams past))
 
 -- how many containers are laid out for a session's commits
 unfoldable pub containers_of : Numbers → Streams → ℕ → List Entry → ℕ

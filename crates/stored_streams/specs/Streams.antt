@@ -1,6 +1,6 @@
 -- The streams of a history's sessions (this project's own).
 use Rattle.std.specs.Prelude.{ℕ, List, [], length, map}
-use Rattle.std.specs.List.{slice_index_or, sum_by}
+use Rattle.std.specs.List.{slice_index_or}
 use Rattle.ss_base.specs.declared.ids.ManifestId.{ManifestId}
 use Rattle.ss_base.specs.declared.name.Piece.{Piece}
 use Rattle.ss_base.specs.declared.profile.Numbers.{Numbers}
@@ -16,13 +16,9 @@ unfoldable pub segment_count : Numbers → Streams → ℕ → ℕ
 segment_count n streams session = length (segments_of n (streams session))
 
 -- the chunks of a manifest's segment: of its session's stream the one with the manifest's number, none past the last
-unfoldable pub chunks_of : Numbers → Streams → ManifestId → List (List ℕ)
-chunks_of n streams id = slice_index_or (segments_of n (streams id.session)) id.seq []
+unfoldable pub manifest_chunks : Numbers → Streams → ManifestId → List (List ℕ)
+manifest_chunks n streams id = slice_index_or (segments_of n (streams id.session)) id.seq []
 
 -- its pieces
-unfoldable pub pieces_of : Numbers → Streams → ManifestId → List Piece
-pieces_of n streams id = map piece (chunks_of n streams id)
-
--- how many bytes some pieces stand for
-abbrev pub bytes_of : List Piece → ℕ
-bytes_of pieces = sum_by (λ (p : Piece). p.len) pieces
+unfoldable pub manifest_pieces : Numbers → Streams → ManifestId → List Piece
+manifest_pieces n streams id = map piece (manifest_chunks n streams id)
