@@ -1,0 +1,9 @@
+pub mod Streams
+pub mod Plans
+pub mod OfStreams
+pub mod Loads
+pub mod Collision
+pub mod Reads
+pub mod Whole
+pub use Rattle.segment_reader.specs.SegmentsOf
+pub use Rattle.segment_plan.specs.Plan
