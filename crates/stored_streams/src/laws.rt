@@ -24,5 +24,5 @@ pub fn stores_what_was_loaded()
         → HasContents (numbers_of profile) streams (newer ++ older)
         → StoresLoaded (numbers_of profile) streams loads (IsGiven reads (newer ++ older)) newer older
         → HasStored (numbers_of profile) streams (newer ++ older)
-            ⊎ Collide (numbers_of profile) streams (newer ++ older) (IsGiven reads (newer ++ older)) }
+        ⊎ Collide (numbers_of profile) streams (newer ++ older) (IsGiven reads (newer ++ older)) }
 {}
