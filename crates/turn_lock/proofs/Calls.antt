@@ -6,32 +6,35 @@ use Rattle.atomic_table.specs.Table.{Me, step, Allows, Splits, Joins}
 use Rattle.journal_entry.specs.declared.entry.Entry.{Entry}
 use Rattle.turn_lock.specs.declared.view.Home.{Home}
 use Rattle.turn_lock.specs.declared.view.View.{View}
-use Rattle.turn_lock.specs.Seen.{has_number, IsTurnOf}
-use Rattle.turn_lock.specs.Passes.{PassView, pass_of, view_of, nobody}
+use Rattle.turn_lock.specs.declared.view.Known.{Known}
+use Rattle.turn_lock.specs.Seen.{has_number, IsTurnOf, IsLater}
+use Rattle.turn_lock.specs.Found.{IsFound}
+use Rattle.turn_lock.specs.Passes.{PassView, pass_of, view_of, known_of, first_view, HasEach, nobody}
 use Rattle.turn_lock.specs.Entered.{waiting, within, ticket_of}
 use Rattle.turn_lock.specs.Rule.{Course, IsSeat, Kept}
-use Rattle.turn_lock.specs.Steps.{Draws, Looks, Adds, Serves, seeing, gave, given, copy, both}
+use Rattle.turn_lock.specs.Steps.{Draws, Looks, Enters, Adds, Serves, Tells, list_in, seeing, gave, given, copy, both}
 use Rattle.turn_lock.proofs.Lists.{has_head}
 use Rattle.turn_lock.proofs.Drawing.{draws}
 use Rattle.turn_lock.proofs.Looking.{looks}
 use Rattle.turn_lock.proofs.Adding.{adds}
 use Rattle.turn_lock.proofs.Serving.{serves}
+use Rattle.turn_lock.proofs.Telling.{tells}
 use Rattle.turn_lock.proofs.Giving.{numbers_given, copies_seen}
 use Rattle.turn_lock.proofs.Merging.{merges}
 
 -- what a pass is in its own view, whatever its turns are
-module _ {T : Type 0} where
-  abbrev M : Type 0
-  M = Me (Option T) View
+pub rests : {T : Type 0} (id : TableId) (m : Me (Option T) View) (p : PassView) (cs : List (ℕ × Option T)) → m ≡ (view_of p, cs) → m ≡ (view_of (pass_of id m.0), cs)
+rests {T} id m p cs e = e ∙ sym (ap (λ (n : Me (Option T) View). let r : Me (Option T) View = (view_of (pass_of id n.0), cs) in r) e)
 
-  pub rests : (id : TableId) (m : M) (p : PassView) (cs : List (ℕ × Option T)) → m ≡ (view_of p, cs) → m ≡ (view_of (pass_of id m.0), cs)
-  rests id m p cs e = e ∙ sym (ap (λ (n : M). let r : M = (view_of (pass_of id n.0), cs) in r) e)
+pub waits : {T : Type 0} (id : TableId) (m : Me (Option T) View) (t : ℕ) (p : PassView) → m ≡ (waiting t p, []) → m ≡ (waiting t (pass_of id m.0), [])
+waits {T} id m t p e = e ∙ sym (ap (λ (n : Me (Option T) View). let r : Me (Option T) View = (waiting t (pass_of id n.0), []) in r) e)
 
-  pub waits : (id : TableId) (m : M) (t : ℕ) (p : PassView) → m ≡ (waiting t p, []) → m ≡ (waiting t (pass_of id m.0), [])
-  waits id m t p e = e ∙ sym (ap (λ (n : M). let r : M = (waiting t (pass_of id n.0), []) in r) e)
+pub enters : {T : Type 0} (id : TableId) (m : Me (Option T) View) (t : ℕ) (p : PassView) → m ≡ (within t p, (0, None) ∷ []) → m ≡ (within (ticket_of m.0.ticket) (pass_of id m.0), (0, None) ∷ [])
+enters {T} id m t p e = e ∙ sym (ap (λ (n : Me (Option T) View). let r : Me (Option T) View = (within (ticket_of n.0.ticket) (pass_of id n.0), (0, None) ∷ []) in r) e)
 
-  pub enters : (id : TableId) (m : M) (t : ℕ) (p : PassView) → m ≡ (within t p, (0, None) ∷ []) → m ≡ (within (ticket_of m.0.ticket) (pass_of id m.0), (0, None) ∷ [])
-  enters id m t p e = e ∙ sym (ap (λ (n : M). let r : M = (within (ticket_of n.0.ticket) (pass_of id n.0), (0, None) ∷ []) in r) e)
+-- the view of a badge that has one
+pub only_view : (views : List View) (v w : View) → views ≡ v ∷ [] → views ≡ w ∷ [] → v ≡ w
+only_view views v w a b = ap first_view (sym a ∙ b)
 
 module _ {T : Type 0} (entries : T → List Entry) (base : T → List ℕ) where
   pub draws_at : (slots id : ℕ) (me : Me (Option T) View) (p : PassView) → me ≡ (view_of p, [])
@@ -59,3 +62,29 @@ module _ {T : Type 0} (entries : T → List Entry) (base : T → List ℕ) where
 
   pub merges_at : (id : ℕ) (v : View) (other : ℕ) (w : View) → v.ticket ≡ None → w.ticket ≡ None → v.inside ≡ false → w.inside ≡ false → Joins (Kept entries base) id v other w (both v w) nobody
   merges_at = merges entries base
+
+  pub tells_at : (slots id : ℕ) (me : Me (Option T) View) → Allows (Kept entries base) slots id me 2 (λ n. n) (Tells (step slots 2 0 0 none) me)
+  tells_at = tells entries base
+
+  -- ---- what the steps leave
+
+  pub finds : (m m' : Me (Option T) View) (t : ℕ) (p : PassView) → m ≡ (waiting t p, []) → Enters entries base m m'
+      → (x : T) × (m' ≡ (within t (record p { seen = entries x }), (0, Some x) ∷ [])) × IsFound entries base p x
+  finds m m' t p is e =
+      let x : T = e.0 in
+      let home : Home = record { first = p.first; base = p.base } in
+      let at_home : m.0.home ≡ Some home = ap (λ (n : Me (Option T) View). n.0.home) is in
+      let known : m.0.known ≡ known_of p = ap (λ (n : Me (Option T) View). n.0.known) is in
+      let next : m.0.next ≡ p.next = ap (λ (n : Me (Option T) View). n.0.next) is in (
+        x,
+        e.1 ∙ ap (λ (n : Me (Option T) View). let r : Me (Option T) View = (record (seeing (entries x) n.0) { inside = true }, (0, Some x) ∷ n.1) in r) is,
+        record {
+          base_is = e.3 home at_home;
+          later = subst (λ (k : Known). IsLater k.numbers k.seen (entries x)) known e.2;
+          whole = λ w. e.4 home w.0 at_home (next ∙ w.1) (subst (λ (k : Known). HasEach p.first w.0 k.numbers) (sym known) w.2) ∙ ap (λ (k : Known). k.seen) known;
+        },
+      )
+
+  pub added : (m m' : Me (Option T) View) (t : ℕ) (p : PassView) (x : T) → m ≡ (within t p, (0, Some x) ∷ []) → m' ≡ (seeing (list_in entries base m.1) m.0, m.1)
+      → m' ≡ (within t (record p { seen = entries x }), (0, Some x) ∷ [])
+  added m m' t p x is a = a ∙ ap (λ (n : Me (Option T) View). let r : Me (Option T) View = (seeing (list_in entries base n.1) n.0, n.1) in r) is
