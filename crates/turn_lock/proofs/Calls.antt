@@ -1,17 +1,17 @@
 -- The steps at a seat whose view and hand are known.
-use Rattle.std.proofs.Common.{◌≡◌, ◌<◌, ◌≤◌, ◌^◌, ◌+◌, ◌%◌, ℕ, true, false, List, [], ◌∷◌, refl, sym, ap, ◌∙◌, subst, Option, Some, None}
+use Rattle.std.proofs.Common.{◌≡◌, ◌<◌, ◌^◌, ◌+◌, ◌%◌, ℕ, true, false, List, [], ◌∷◌, refl, sym, ap, ◌∙◌, subst, Option, Some, None}
 use mathlib.Core.Option.{none}
 use Rattle.atomic_table.specs.Seated.{TableId}
-use Rattle.atomic_table.specs.Table.{Me, step, Allows, Splits, Joins}
+use Rattle.atomic_table.specs.Table.{Me, rest, step, Allows, Splits, Joins}
 use Rattle.journal_entry.specs.declared.entry.Entry.{Entry}
 use Rattle.turn_lock.specs.declared.view.Home.{Home}
 use Rattle.turn_lock.specs.declared.view.View.{View}
 use Rattle.turn_lock.specs.declared.view.Known.{Known}
-use Rattle.turn_lock.specs.Seen.{has_number, IsTurnOf, IsLater}
+use Rattle.turn_lock.specs.Seen.{IsTurnOf, IsLater}
 use Rattle.turn_lock.specs.Found.{IsFound}
 use Rattle.turn_lock.specs.Passes.{PassView, pass_of, view_of, known_of, first_view, HasEach, nobody}
 use Rattle.turn_lock.specs.Entered.{waiting, within, ticket_of}
-use Rattle.turn_lock.specs.Rule.{Course, IsSeat, Kept}
+use Rattle.turn_lock.specs.Rule.{Kept}
 use Rattle.turn_lock.specs.Steps.{Draws, Looks, Enters, Adds, Serves, Tells, list_in, seeing, gave, given, copy, both}
 use Rattle.turn_lock.proofs.Lists.{has_head}
 use Rattle.turn_lock.proofs.Drawing.{draws}
@@ -31,6 +31,10 @@ waits {T} id m t p e = e ∙ sym (ap (λ (n : Me (Option T) View). let r : Me (O
 
 pub enters : {T : Type 0} (id : TableId) (m : Me (Option T) View) (t : ℕ) (p : PassView) → m ≡ (within t p, (0, None) ∷ []) → m ≡ (within (ticket_of m.0.ticket) (pass_of id m.0), (0, None) ∷ [])
 enters {T} id m t p e = e ∙ sym (ap (λ (n : Me (Option T) View). let r : Me (Option T) View = (within (ticket_of n.0.ticket) (pass_of id n.0), (0, None) ∷ []) in r) e)
+
+-- the state is in hand again
+pub held : {T : Type 0} (m m' : Me (Option T) View) (t : ℕ) (p : PassView) (x : T) → m ≡ (within t p, (0, None) ∷ []) → m' ≡ (m.0, (0, Some x) ∷ rest m.1) → m' ≡ (within t p, (0, Some x) ∷ [])
+held {T} m m' t p x is e = e ∙ ap (λ (n : Me (Option T) View). let r : Me (Option T) View = (n.0, (0, Some x) ∷ rest n.1) in r) is
 
 -- the view of a badge that has one
 pub only_view : (views : List View) (v w : View) → views ≡ v ∷ [] → views ≡ w ∷ [] → v ≡ w

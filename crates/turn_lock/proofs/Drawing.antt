@@ -1,9 +1,9 @@
 -- A ticket is drawn.
-use Rattle.std.proofs.Common.{◌≡◌, ◌≢◌, ◌⊎◌, ℕ, ◌+◌, ◌-◌, ◌%◌, ◌^◌, ◌<◌, ◌≤◌, true, false, List, [], ◌∷◌, ◌++◌, length, get_or, set, refl, sym, ap, ◌∙◌, subst, ⊎_elim, arith, length-set, length-append, Option, Some, None}
+use Rattle.std.proofs.Common.{◌≡◌, ◌≢◌, ℕ, ◌+◌, ◌-◌, ◌%◌, ◌^◌, ◌<◌, true, false, List, [], ◌∷◌, ◌++◌, length, get_or, set, refl, sym, ap, ◌∙◌, subst, ⊎_elim, arith, length-set, length-append, Option, Some, None}
 use Rattle.std.proofs.lemmas.Bool.{both_ways}
 use mathlib.Core.Option.{some, none}
 use lib.ListN.{get_elem?}
-use Rattle.atomic_table.specs.Table.{State, Me, step, keeps, Allows}
+use Rattle.atomic_table.specs.Table.{Me, step, keeps, Allows}
 use Rattle.atomic_table.proofs.Lists.{at_longer, at_last}
 use Rattle.journal_entry.specs.declared.entry.Entry.{Entry}
 use Rattle.turn_lock.specs.declared.view.View.{View}
@@ -24,9 +24,9 @@ drawn c id n v mine no_ticket out has = let t : ℕ = c.served + length c.line i
   old = mine.old;
   ticket = λ t' e. subst (λ z. IsTicket (longer_line c n) v.known.numbers z) (some_same t t' e) (n, has, omega arith, at_last c.line n (t - c.served) (omega arith));
   line = λ m place h e. ⊎_elim
-    (λ old. absurd (none_some (c.served + place) v.ticket no_ticket (mine.line m place h old)))
-    (λ new. ap (λ z. Some (c.served + z)) (sym new.0))
-    (at_snoc c.line n m place e);
+      (λ old. absurd (none_some (c.served + place) v.ticket no_ticket (mine.line m place h old)))
+      (λ new. ap (λ z. Some (c.served + z)) (sym new.0))
+      (at_snoc c.line n m place e);
   inside = mine.inside;
   entered = λ e. absurd (both_ways v.inside out e);
   next = mine.next;
@@ -39,9 +39,9 @@ other_draws c i id n u is own ne = record {
   old = is.old;
   ticket = λ t e. let k = is.ticket t e in (k.0, k.1, k.2, at_longer c.line (n ∷ []) (t - c.served) k.0 k.3);
   line = λ m place h e. ⊎_elim
-    (λ old. is.line m place h old)
-    (λ new. absurd (ne (sym (is.known.owned m h).0 ∙ (ap c.owner (sym new.1) ∙ own))))
-    (at_snoc c.line n m place e);
+      (λ old. is.line m place h old)
+      (λ new. absurd (ne (sym (is.known.owned m h).0 ∙ (ap c.owner (sym new.1) ∙ own))))
+      (at_snoc c.line n m place e);
   inside = is.inside;
   entered = is.entered;
   next = is.next;
@@ -53,9 +53,9 @@ line_longer c id n v mine no_ticket has is =
     record {
       given = λ place m e. ⊎_elim (λ old. is.given place m old) (λ new. subst (λ z. z < c.next) new.1 (mine.known.owned n has).2) (at_snoc c.line n m place e);
       once = λ p q m e f. ⊎_elim
-        (λ a. ⊎_elim (λ b. is.once p q m a b) (λ b. absurd (absent p (a ∙ ap some (sym b.1)))) (at_snoc c.line n m q f))
-        (λ a. ⊎_elim (λ b. absurd (absent q (b ∙ ap some (sym a.1)))) (λ b. a.0 ∙ sym b.0) (at_snoc c.line n m q f))
-        (at_snoc c.line n m p e);
+          (λ a. ⊎_elim (λ b. is.once p q m a b) (λ b. absurd (absent p (a ∙ ap some (sym b.1)))) (at_snoc c.line n m q f))
+          (λ a. ⊎_elim (λ b. absurd (absent q (b ∙ ap some (sym a.1)))) (λ b. a.0 ∙ sym b.0) (at_snoc c.line n m q f))
+          (at_snoc c.line n m p e);
     }
 
 module _ {T : Type 0} (entries : T → List Entry) (base : T → List ℕ) where

@@ -1,19 +1,18 @@
 -- The opener gives out a number, or a pass a copy of what it has seen.
-use Rattle.std.proofs.Common.{◌≡◌, ◌≢◌, ◌⊎◌, ℕ, zero, suc, ◌+◌, ◌-◌, ◌%◌, ◌^◌, ◌<◌, ◌≤◌, eqb, cond, Bool, true, false, List, [], ◌∷◌, ◌++◌, length, get_or, set, refl, sym, ap, ◌∙◌, subst, inl, inr, ⊎_elim, arith, length-set, length-append, eq-eqb, ne_eqb, Option, Some, None}
+use Rattle.std.proofs.Common.{◌≡◌, ◌≢◌, ℕ, suc, ◌+◌, ◌^◌, ◌<◌, ◌≤◌, eqb, cond, true, false, List, [], ◌∷◌, ◌++◌, length, set, refl, sym, ap, ◌∙◌, subst, ⊎_elim, arith, length-set, length-append, eq-eqb, ne_eqb, Some, None}
 use Rattle.std.specs.List.{AllByRecursion}
 use Rattle.std.proofs.lemmas.Bool.{both_ways, false_from_ne_true}
-use mathlib.Core.Option.{some, none, some-injective, some-ne-none}
+use mathlib.Core.Option.{some}
 use lib.ListN.{get_elem?}
-use Rattle.atomic_table.specs.Table.{State, Splits}
-use Rattle.atomic_table.proofs.Lists.{set_again}
+use Rattle.atomic_table.specs.Table.{Splits}
 use Rattle.journal_entry.specs.declared.entry.Entry.{Entry}
 use Rattle.turn_lock.specs.declared.view.Known.{Known}
 use Rattle.turn_lock.specs.declared.view.View.{View}
 use Rattle.turn_lock.specs.Seen.{has_number}
-use Rattle.turn_lock.specs.Rule.{Course, IsSeat, IsKnown, IsUnseen, IsLine, Kept, is_numbered, is_holder, next_at}
+use Rattle.turn_lock.specs.Rule.{Course, IsSeat, IsKnown, IsUnseen, IsLine, Kept, is_numbered, is_holder}
 use Rattle.turn_lock.specs.Steps.{gave, given, copy, next_number}
-use Rattle.turn_lock.proofs.Lists.{has_one, all_map, all_and, all_right, at_snoc, within_list}
-use Rattle.turn_lock.proofs.Knowing.{none_some, seats_set, place_views, holder_below, has_numbered, next_is, next_here, next_none, renumber}
+use Rattle.turn_lock.proofs.Lists.{has_one, all_map, all_and, all_right, at_snoc}
+use Rattle.turn_lock.proofs.Knowing.{none_some, seats_set, place_views, holder_below, next_is, next_here, next_none, renumber}
 
 abbrev owner_with : (ℕ → ℕ) → ℕ → ℕ → ℕ → ℕ
 owner_with owner next seat n = cond (eqb n next) seat (owner n)

@@ -1,8 +1,7 @@
 -- What a seat knows, while others go on.
-use Rattle.std.proofs.Common.{◌≡◌, ◌≢◌, ◌⊎◌, ℕ, zero, suc, ◌+◌, ◌-◌, ◌%◌, ◌^◌, ◌<◌, ◌≤◌, eqb, Bool, true, false, List, [], ◌∷◌, ◌++◌, length, set, refl, sym, ap, ◌∙◌, subst, inl, inr, ⊎_elim, arith, append_assoc, length-set, eq-eqb, ne_eqb, Option, Some, None}
+use Rattle.std.proofs.Common.{◌≡◌, ◌≢◌, ℕ, ◌+◌, ◌%◌, ◌^◌, ◌<◌, ◌≤◌, eqb, Bool, true, false, List, [], ◌∷◌, ◌++◌, length, set, refl, sym, ap, ◌∙◌, subst, inl, inr, ⊎_elim, arith, append_assoc, eq-eqb, ne_eqb, Option, Some, None}
 use Rattle.std.specs.Prelude.{if◌then◌else◌}
-use Rattle.std.specs.List.{AllByRecursion}
-use Rattle.std.proofs.lemmas.Bool.{both_ways, false_from_ne_true, cases_Bool}
+use Rattle.std.proofs.lemmas.Bool.{both_ways, false_from_ne_true}
 use Rattle.std.proofs.lemmas.Bool.Decides.{nat_tests}
 use Rattle.std.proofs.lemmas.List.{append-nil}
 use mathlib.Core.Option.{some}
@@ -12,9 +11,9 @@ use Rattle.atomic_table.proofs.Lists.{at_set}
 use Rattle.journal_entry.specs.declared.entry.Entry.{Entry}
 use Rattle.turn_lock.specs.declared.view.Known.{Known}
 use Rattle.turn_lock.specs.declared.view.View.{View}
-use Rattle.turn_lock.specs.Seen.{has_number, IsByOther, IsTurnOf}
-use Rattle.turn_lock.specs.Rule.{Course, is_numbered, IsUnseen, Behind, IsKnown, is_holder, next_at, IsSeat, IsPlace, word}
-use Rattle.turn_lock.proofs.Lists.{all_map, all_append}
+use Rattle.turn_lock.specs.Seen.{has_number, IsTurnOf}
+use Rattle.turn_lock.specs.Rule.{Course, is_numbered, IsUnseen, IsKnown, is_holder, next_at, IsSeat, IsPlace, word}
+use Rattle.turn_lock.proofs.Lists.{all_append}
 
 pub none_some : {A : Type 0} (x : A) (o : Option A) → o ≡ None → o ≡ Some x → ⊥
 none_some x o p q = cc (p, q)

@@ -1,33 +1,33 @@
 -- A look whose turn it is.
-use Rattle.std.proofs.Common.{◌≡◌, ◌≢◌, ◌⊎◌, ℕ, ◌+◌, ◌-◌, ◌%◌, ◌^◌, ◌<◌, ◌≤◌, true, false, List, [], ◌∷◌, ◌++◌, length, get_or, set, refl, sym, ap, ◌∙◌, subst, ⊎_elim, arith, length-set, length-append, eq-eqb, ne_eqb, Option, Some, None}
+use Rattle.std.proofs.Common.{◌≡◌, ◌≢◌, ℕ, ◌+◌, ◌-◌, ◌<◌, true, false, List, [], ◌∷◌, get_or, set, refl, sym, ap, ◌∙◌, subst, ⊎_elim, arith, length-set, eq-eqb, ne_eqb, Option, Some, None}
 use Rattle.std.specs.List.{AllByRecursion}
 use Rattle.std.proofs.lemmas.Bool.{both_ways, cases_lt}
-use Rattle.std.proofs.lemmas.List.{append-nil, set-get_or}
+use Rattle.std.proofs.lemmas.List.{set-get_or}
 use mathlib.Core.Logic.{dite}
 use native.Mathlib.Decide.{ℕ_discrete}
 use mathlib.Core.Option.{some, none}
 use mathlib.Core.Option as maybe
 use lib.ListN.{get_elem?}
-use Rattle.atomic_table.specs.Table.{State, Me, step, keeps, takes, stepped, Allows}
+use Rattle.atomic_table.specs.Table.{State, step, keeps, takes, stepped, Allows}
 use Rattle.atomic_table.proofs.Lists.{set_again, one_turn}
 use Rattle.journal_entry.specs.declared.entry.Entry.{Entry}
 use Rattle.turn_lock.specs.declared.view.Home.{Home}
 use Rattle.turn_lock.specs.declared.view.View.{View}
-use Rattle.turn_lock.specs.Seen.{has_number, IsByOther, IsLater}
+use Rattle.turn_lock.specs.Seen.{has_number, IsByOther}
 use Rattle.turn_lock.specs.Passes.{HasEach}
-use Rattle.turn_lock.specs.Rule.{Course, IsSeat, IsUnseen, IsKnown, IsTicket, IsLine, IsPlace, is_holder, Kept, word}
+use Rattle.turn_lock.specs.Rule.{Course, IsSeat, IsUnseen, IsPlace, is_holder, Kept, word}
 use Rattle.turn_lock.specs.Steps.{Looks, Enters, seeing}
 use Rattle.turn_lock.proofs.Lists.{all_map, all_and, all_right, all_never, nothing_behind, there, within_list}
 use Rattle.turn_lock.proofs.Pigeonhole.{line_length}
-use Rattle.turn_lock.proofs.Knowing.{none_some, some_same, seats_set, place_views, knows_all, has_numbered, next_is}
+use Rattle.turn_lock.proofs.Knowing.{some_same, seats_set, place_views, knows_all, has_numbered, next_is}
 
 -- behind what has every number is nothing
 none_behind : (first next : ℕ) (numbers : List ℕ) (n : ℕ) (behind : List Entry) → has_number numbers n ≡ true → HasEach first next numbers → AllByRecursion (IsUnseen first numbers) behind → AllByRecursion (λ e. e.author < next) behind → behind ≡ []
 none_behind first next numbers n behind has each unseen authors =
     let never : (e : Entry) → IsUnseen first numbers e × (e.author < next) → ⊥ = λ e both. ⊎_elim
-      (λ early. let late = both.0.late (has_numbered numbers n has) in absurd (omega arith))
-      (λ late. both_ways (has_number numbers e.author) both.0.other (each e.author late both.1))
-      (cases_lt e.author first) in
+    (λ early. let late = both.0.late (has_numbered numbers n has) in absurd (omega arith))
+    (λ late. both_ways (has_number numbers e.author) both.0.other (each e.author late both.1))
+    (cases_lt e.author first) in
     all_never (λ e. IsUnseen first numbers e × (e.author < next)) never behind (all_and (IsUnseen first numbers) (λ e. e.author < next) (λ e. IsUnseen first numbers e × (e.author < next)) (λ e p q. (p, q)) behind unseen authors)
 
 module _ {T : Type 0} (entries : T → List Entry) (base : T → List ℕ) where

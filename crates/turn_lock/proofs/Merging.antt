@@ -1,21 +1,21 @@
 -- Two seats become one.
-use Rattle.std.proofs.Common.{◌≡◌, ◌≢◌, ◌⊎◌, ℕ, zero, suc, ◌+◌, ◌-◌, ◌%◌, ◌^◌, ◌<◌, ◌≤◌, eqb, cond, Bool, true, false, List, [], ◌∷◌, ◌++◌, length, get_or, set, refl, sym, ap, ◌∙◌, subst, inl, inr, ⊎_elim, arith, length-set, length-append, eq-eqb, ne_eqb, Option, Some, None}
+use Rattle.std.proofs.Common.{◌≡◌, ◌≢◌, ◌⊎◌, ℕ, ◌+◌, ◌<◌, eqb, cond, true, false, List, [], ◌∷◌, ◌++◌, length, set, refl, sym, ap, ◌∙◌, subst, inl, inr, ⊎_elim, arith, length-set, eq-eqb, ne_eqb, Option, Some, None}
 use Rattle.std.specs.Prelude.{if◌then◌else◌, nat_lt}
 use Rattle.std.specs.List.{AllByRecursion}
 use Rattle.std.proofs.lemmas.Bool.{both_ways, false_from_ne_true, cases_Bool}
 use Rattle.std.proofs.lemmas.Bool.Decides.{nat_tests}
 use mathlib.Core.Logic.{dite}
 use native.Mathlib.Decide.{ℕ_discrete}
-use mathlib.Core.Option.{some, none}
+use mathlib.Core.Option.{some}
 use lib.ListN.{get_elem?}
-use Rattle.atomic_table.specs.Table.{State, Joins}
+use Rattle.atomic_table.specs.Table.{Joins}
 use Rattle.atomic_table.proofs.Lists.{at_set, set_else}
 use Rattle.journal_entry.specs.declared.entry.Entry.{Entry}
 use Rattle.turn_lock.specs.declared.view.Known.{Known}
 use Rattle.turn_lock.specs.declared.view.View.{View}
 use Rattle.turn_lock.specs.Seen.{has_number, longer}
 use Rattle.turn_lock.specs.Passes.{nobody, next_of}
-use Rattle.turn_lock.specs.Rule.{Course, IsSeat, IsKnown, IsUnseen, Behind, IsLine, Kept, is_numbered, is_holder, next_at}
+use Rattle.turn_lock.specs.Rule.{Course, IsSeat, IsKnown, IsUnseen, Behind, Kept, is_numbered, next_at}
 use Rattle.turn_lock.specs.Steps.{both}
 use Rattle.turn_lock.proofs.Lists.{has_append, has_none, all_map, all_and, all_right, between, within_list}
 use Rattle.turn_lock.proofs.Knowing.{none_some, seats_set, place_views, next_here, next_none, renumber}
@@ -118,9 +118,9 @@ own_joins c id other v w mine his waits_not rests out ne =
       home = mine.home;
       known = record {
         owned = λ n h. ⊎_elim
-          (λ l. let o = mine.known.owned n l in (owner_own c.owner w.known.numbers id n o.0, o.1, o.2))
-          (λ r. let o = his.known.owned n r in (owner_taken c.owner w.known.numbers id n r, o.1, o.2))
-          (has_append v.known.numbers w.known.numbers n h);
+            (λ l. let o = mine.known.owned n l in (owner_own c.owner w.known.numbers id n o.0, o.1, o.2))
+            (λ r. let o = his.known.owned n r in (owner_taken c.owner w.known.numbers id n r, o.1, o.2))
+            (has_append v.known.numbers w.known.numbers n h);
         behind = behind_both c.home.first c.journal v.known w.known mine.known.behind his.known.behind;
       };
       old = (
@@ -129,9 +129,9 @@ own_joins c id other v w mine his waits_not rests out ne =
       );
       ticket = λ t e. absurd (none_some t v.ticket waits_not e);
       line = λ n place h e. ⊎_elim
-        (λ l. mine.line n place l e)
-        (λ r. absurd (none_some (c.served + place) w.ticket rests (his.line n place r e)))
-        (has_append v.known.numbers w.known.numbers n h);
+          (λ l. mine.line n place l e)
+          (λ r. absurd (none_some (c.served + place) w.ticket rests (his.line n place r e)))
+          (has_append v.known.numbers w.known.numbers n h);
       inside = mine.inside;
       entered = λ e. absurd (both_ways v.inside out e);
       next = next_joined c.opener c.next other id v.next w.next mine.next his.next ne;

@@ -1,10 +1,8 @@
 -- A list of numbers below a bound, each of them once, is no longer than the bound.
-use Rattle.std.proofs.Common.{◌≡◌, ◌≢◌, ◌⊎◌, ℕ, zero, suc, ◌+◌, ◌<◌, ◌≤◌, eqb, cond, Bool, true, false, List, [], ◌∷◌, length, refl, sym, ap, ◌∙◌, inl, inr, ⊎_elim, arith}
-use Rattle.std.proofs.lemmas.Bool.{cases_Bool}
+use Rattle.std.proofs.Common.{◌≡◌, ◌⊎◌, ℕ, zero, suc, ◌<◌, ◌≤◌, eqb, cond, Bool, true, false, List, length, refl, sym, ◌∙◌, inl, inr, arith}
 use borrow.Author.Tests.{eqb-true, eqb-false}
 use Rattle.std.proofs.lemmas.List.{get_or_default}
-use mathlib.Core.Option.{some}
-use lib.ListN.{get_elem?, get_or}
+use lib.ListN.{get_or}
 use Rattle.atomic_table.proofs.Lists.{at_index}
 use Rattle.turn_lock.specs.Rule.{IsLine}
 

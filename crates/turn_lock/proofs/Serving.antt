@@ -1,14 +1,13 @@
 -- A turn ends, and the state is given back.
-use Rattle.std.proofs.Common.{◌≡◌, ◌≢◌, ◌⊎◌, ℕ, zero, suc, ◌+◌, ◌-◌, ◌%◌, ◌^◌, ◌<◌, ◌≤◌, true, false, List, [], ◌∷◌, ◌++◌, length, get_or, set, refl, sym, ap, ◌∙◌, subst, inl, inr, ⊎_elim, arith, length-set, Option, Some, None}
+use Rattle.std.proofs.Common.{◌≡◌, ◌≢◌, ◌⊎◌, ℕ, zero, suc, ◌+◌, ◌-◌, ◌%◌, ◌^◌, ◌<◌, true, false, List, [], ◌∷◌, length, get_or, set, refl, sym, ap, ◌∙◌, subst, inl, inr, ⊎_elim, arith, length-set, Some, None}
 use Rattle.std.proofs.lemmas.Bool.{both_ways, false_from_ne_true}
 use mathlib.Core.Option.{some, none, some-injective, some-ne-none}
 use lib.ListN.{get_elem?}
-use Rattle.atomic_table.specs.Table.{State, Me, step, gives, Allows}
+use Rattle.atomic_table.specs.Table.{step, gives, Allows}
 use Rattle.journal_entry.specs.declared.entry.Entry.{Entry}
 use Rattle.turn_lock.specs.declared.view.View.{View}
-use Rattle.turn_lock.specs.Seen.{has_number}
 use Rattle.turn_lock.specs.Passes.{joined_of}
-use Rattle.turn_lock.specs.Rule.{Course, IsSeat, IsTicket, IsLine, Kept, word, is_holder}
+use Rattle.turn_lock.specs.Rule.{Course, IsSeat, IsLine, Kept, word, is_holder}
 use Rattle.turn_lock.specs.Steps.{Serves}
 use Rattle.turn_lock.proofs.Knowing.{none_some, some_same, word_more, seats_set, homes_away, holder_one}
 

@@ -1,9 +1,9 @@
 -- The count is looked at, which tells what became of the lists that were joined.
-use Rattle.std.proofs.Common.{◌≡◌, ◌≢◌, ℕ, ◌+◌, ◌-◌, ◌%◌, ◌^◌, ◌<◌, ◌≤◌, true, false, List, [], ◌∷◌, ◌++◌, length, get_or, set, refl, sym, ap, ◌∙◌, subst, arith, length-set, Option, Some, None}
+use Rattle.std.proofs.Common.{ℕ, ◌≤◌, List, [], ◌++◌, length, set, refl, ◌∙◌, subst, arith, length-set, Option}
 use Rattle.std.specs.List.{AllByRecursion}
 use Rattle.std.proofs.lemmas.List.{set-get_or}
-use mathlib.Core.Option.{some, none}
-use Rattle.atomic_table.specs.Table.{State, Me, step, keeps, Allows}
+use mathlib.Core.Option.{none}
+use Rattle.atomic_table.specs.Table.{Me, step, keeps, Allows}
 use Rattle.journal_entry.specs.declared.entry.Entry.{Entry}
 use Rattle.turn_lock.specs.declared.view.Known.{Known}
 use Rattle.turn_lock.specs.declared.view.View.{View}
@@ -55,6 +55,6 @@ module _ {T : Type 0} (entries : T → List Entry) (base : T → List ℕ) where
         (
           refl,
           all_map (IsKnown c.owner c.home.first c.next c.journal id) (λ (o : Known). length o.seen ≤ length v.known.seen → IsLater o.numbers o.seen v.known.seen)
-          (λ (o : Known) known le. later c.owner c.home.first c.next c.journal id id o v.known known mine.known le) v.old mine.old,
+              (λ (o : Known) known le. later c.owner c.home.first c.next c.journal id id o v.known known mine.known le) v.old mine.old,
         ),
       )

@@ -1,5 +1,5 @@
 -- The seat of a pass that rests, and of one that has its turn (this project's own).
-use Rattle.std.specs.Prelude.{ℕ, true, ◌≡◌, List, [], ◌∷◌, Option, Some, None}
+use Rattle.std.specs.Prelude.{ℕ, true, ◌≡◌, [], ◌∷◌, Option, Some, None}
 use Rattle.atomic_table.specs.declared.shared.Seat.{Seat}
 use Rattle.turn_lock.specs.declared.view.View.{View}
 use Rattle.turn_lock.specs.Passes.{PassView, pass_of, view_of}

@@ -1,16 +1,12 @@
 -- What was seen of a list of entries that grows, and what came behind it (this project's own).
-use Rattle.std.specs.Prelude.{ℕ, Bool, true, false, ◌==◌, ◌||◌, nat_lt, ◌≡◌, ◌⊎◌, List, [], ◌∷◌, ◌++◌, length, if◌then◌else◌}
-use Rattle.std.specs.List.{AllByRecursion, filter}
+use Rattle.std.specs.Prelude.{ℕ, Bool, false, ◌==◌, ◌||◌, nat_lt, ◌≡◌, ◌⊎◌, List, [], ◌∷◌, ◌++◌, length, if◌then◌else◌}
+use Rattle.std.specs.List.{AllByRecursion}
 use Rattle.journal_entry.specs.declared.entry.Entry.{Entry}
 
 -- whether the number is among these
 abbrev pub has_number : List ℕ → ℕ → Bool
 has_number [] n = false
 has_number (m ∷ ms) n = (m == n) || has_number ms n
-
--- the entries of one author, in their order
-abbrev pub entries_by : ℕ → List Entry → List Entry
-entries_by n entries = filter (λ e. e.author == n) entries
 
 -- the entry is by none of these authors
 abbrev pub IsByOther : List ℕ → Entry → Type 0

@@ -1,13 +1,12 @@
 -- What each kind of step tells whoever takes it (this project's own).
-use Rattle.std.specs.Prelude.{ℕ, suc, ◌+◌, ◌%◌, ◌^◌, ◌≤◌, Bool, true, false, ◌≡◌, ◌≢◌, List, [], ◌∷◌, ◌++◌, length, Option, Some, None}
+use Rattle.std.specs.Prelude.{ℕ, suc, ◌≤◌, true, false, ◌≡◌, ◌≢◌, List, [], ◌∷◌, ◌++◌, length, Option, Some, None}
 use Rattle.std.specs.List.{AllByRecursion}
 use Rattle.atomic_table.specs.Table.{Me, Step, rest}
 use Rattle.journal_entry.specs.declared.entry.Entry.{Entry}
 use Rattle.turn_lock.specs.declared.view.Home.{Home}
-use Rattle.turn_lock.specs.declared.view.Known.{Known}
 use Rattle.turn_lock.specs.declared.view.View.{View}
 use Rattle.turn_lock.specs.Seen.{IsLater, longer}
-use Rattle.turn_lock.specs.Passes.{HasEach, next_of, number_of}
+use Rattle.turn_lock.specs.Passes.{HasEach, next_of}
 use Rattle.turn_lock.specs.Rule.{word}
 
 -- a view that has seen this list

@@ -18,3 +18,6 @@ pub use numbers::SplitFault;
 pub use pass::{Note, Pass};
 pub use turns::Turns;
 pub use view::{Home, Known, View};
+
+#[cfg(test)]
+mod tests;

@@ -1,4 +1,4 @@
-use Rattle.std.proofs.Common.{rules, ◌≡◌, refl, sym, ap, ◌∙◌}
+use Rattle.std.proofs.Common.{rules, ap, ◌∙◌}
 use Rattle.turn_lock.proofs.Calls.{merges_at, tells_at, only_view}
 use Rattle.turn_lock.proofs.turns.Turns.meet.Goals as goal
 

@@ -1,7 +1,4 @@
-use Rattle.std.proofs.Common.{rules, arith, ◌≡◌, ◌∷◌, [], sym, ap, ◌∙◌, subst, Some}
-use Rattle.turn_lock.specs.Openings.{opener}
-use Rattle.turn_lock.specs.Rule.{Kept}
-use Rattle.atomic_table.specs.Table.{opening}
+use Rattle.std.proofs.Common.{rules, ◌≡◌, ◌∷◌, [], Some}
 use Rattle.turn_lock.proofs.Starting.{starts}
 use Rattle.turn_lock.proofs.turns.Turns.start.Goals as goal
 

@@ -1,7 +1,6 @@
-use Rattle.std.proofs.Common.{rules, refl, sym, ap, ◌∙◌, ◌≡◌, [], ℕ, Option, Some, None, List}
-use Rattle.turn_lock.specs.Entered.{seat_pass, waiting}
-use Rattle.turn_lock.specs.Passes.{view_of}
-use Rattle.turn_lock.proofs.Calls.{draws_at, waits}
+use Rattle.std.proofs.Common.{rules}
+use Rattle.turn_lock.specs.Entered.{seat_pass}
+use Rattle.turn_lock.proofs.Calls.{draws_at}
 use Rattle.turn_lock.proofs.turns.Turns.take_turn.Goals as goal
 
 pub fetch_add-ticket-requires : goal.fetch_add-ticket-requires

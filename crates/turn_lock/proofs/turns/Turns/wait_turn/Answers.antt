@@ -1,4 +1,4 @@
-use Rattle.std.proofs.Common.{rules, ◌≡◌, ◌∷◌, refl, sym, ap, ◌∙◌, subst, [], Some}
+use Rattle.std.proofs.Common.{rules, ◌≡◌, ◌∷◌, sym, ap, ◌∙◌, subst, Some}
 use Rattle.atomic_table.specs.Table.{rest}
 use Rattle.turn_lock.specs.Entered.{seat_pass}
 use Rattle.turn_lock.specs.Found.{IsFound}
