@@ -67,10 +67,12 @@ fn two<R: Threads + Wait + Sync>(
     let (one, other) = join(
         rt,
         || -> Pass
-            ensures { result.turns ≡ turns.now }
+            requires { (one.turns ≡ turns.now) × (author ≡ one.number) }
+            ensures { result.turns ≡ turns.entry.now }
         { many(rt, turns, one, author, count) },
         || -> Pass
-            ensures { result.turns ≡ turns.now }
+            requires { (other.turns ≡ turns.now) × (next ≡ other.number) }
+            ensures { result.turns ≡ turns.entry.now }
         { many(rt, turns, other, next, count) },
     );
     turns.join(one, other)
@@ -106,10 +108,10 @@ fn two_threads_take_turns(rt: HostRuntime) -> Result<(), Fail> {
 #[test]
 fn the_last_number(rt: HostRuntime) -> Result<(), Fail> {
     let (turns, mut one) = Turns::start(rt.alloc(), empty(rt.alloc()), u32::MAX)?;
-    for _ in 0..2 {
-        let split = turns.split(&mut one);
-        assert!(rt; matches!(split, Err(SplitFault::Callers(4294967296))));
-    }
+    let first = turns.split(&mut one);
+    let second = turns.split(&mut one);
+    assert!(rt; matches!(first, Err(SplitFault::Callers(4294967296))));
+    assert!(rt; matches!(second, Err(SplitFault::Callers(4294967296))));
     Ok(())
 }
 
