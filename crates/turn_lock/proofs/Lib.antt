@@ -10,3 +10,4 @@ pub mod Serving
 pub mod Telling
 pub mod Giving
 pub mod Merging
+pub mod Openers
