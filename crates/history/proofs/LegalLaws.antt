@@ -1,15 +1,15 @@
 -- Laws of legal histories.
-use Rattle.std.proofs.Common.{◌≡◌, ℕ, ◌≤◌, ◌<◌, ◌+◌, get_or, subst, below_more, take, length, arith, Bool, true, false, ◌&&◌, List, [], ◌∷◌, ◌++◌, refl, ap, ◌∙◌}
+use Rattle.std.proofs.Common.{◌≡◌, ℕ, ◌≤◌, take, length, arith, Bool, true, false, ◌&&◌, List, [], ◌∷◌, ◌++◌}
 use Rattle.journal_entry.specs.declared.entry.Entry.{Entry}
 use Rattle.journal_entry.specs.declared.entry.Point.{Point}
 use Rattle.journal_entry.specs.declared.entry.Point.TheVariants.{Begin, Choose, Commit, Finish, Abort, Delete, Look, Done, Reclaim, Stat}
 use Rattle.std.specs.Cmp.Lexicographic.{as_long}
-use Rattle.std.proofs.lemmas.List.{length-take, get_or_default}
+use Rattle.std.proofs.lemmas.List.{length-take}
 use Rattle.ss_base.specs.Ids.{same_object}
 use Rattle.history.specs.Need.{erasable}
 use Rattle.history.specs.TotalsOf.{objects_named}
 use Rattle.history.specs.declared.rules.Rules.{Rules}
-use Rattle.history.specs.Legal.{is_legal, may_follow, is_allowed, is_within}
+use Rattle.history.specs.Legal.{is_legal, may_follow, is_allowed}
 
 first_of_both : (a b : Bool) → (a && b) ≡ true → a ≡ true
 first_of_both true b e = cc
@@ -21,18 +21,6 @@ unfolding is_legal
 is_legal-older rules [] older legal = legal
 is_legal-older rules (entry ∷ newer) older legal =
     is_legal-older rules newer older (first_of_both (is_legal rules (newer ++ older)) (may_follow rules entry (newer ++ older)) legal)
-
--- what one more entry makes of a legal history
-pub is_legal-more : (rules : Rules) (entry : Entry) (past : List Entry) (allowed within : Bool) → is_legal rules past ≡ true → is_allowed rules past entry.author entry.point ≡ allowed → is_within rules.limits (entry ∷ past) ≡ within → is_legal rules (entry ∷ past) ≡ (allowed && within)
-unfolding is_legal may_follow
-is_legal-more rules entry past allowed within legal is_a is_w =
-    ap (λ b. b && (is_allowed rules past entry.author entry.point && is_within rules.limits (entry ∷ past))) legal
-    ∙ ap (λ b. b && is_within rules.limits (entry ∷ past)) is_a
-    ∙ ap (λ b. allowed && b) is_w
-
-pub is_legal-none : (rules : Rules) → is_legal rules [] ≡ true
-unfolding is_legal
-is_legal-none rules = refl
 
 -- an entry that is allowed names at most 16 objects
 pub few_objects : (rules : Rules) (past : List Entry) (author : ℕ) (point : Point) → is_allowed rules past author point ≡ true → objects_named point ≤ 16
@@ -49,8 +37,3 @@ few_objects rules past author (Delete name session) allowed = omega arith
 few_objects rules past author (Look name seen) allowed = omega arith
 few_objects rules past author (Done reader) allowed = omega arith
 few_objects rules past author (Stat totals) allowed = omega arith
-
-pub named_more : (entries : List Entry) (i : ℕ) (entry : Entry) → i < length entries → entry ≡ get_or entries i entry → ((k : ℕ) (d : Entry) → k < i → objects_named (get_or entries k d).point ≤ 16) → objects_named entry.point ≤ 16 → (k : ℕ) (d : Entry) → k < i + 1 → objects_named (get_or entries k d).point ≤ 16
-named_more entries i entry below is before here k d at =
-    below_more (λ (j : ℕ). objects_named (get_or entries j d).point ≤ 16) i (λ j less. before j d less)
-    (subst (λ (e : Entry). objects_named e.point ≤ 16) (is ∙ get_or_default entries i entry d below) here) k at

@@ -1,4 +1,4 @@
 mod Scans
 mod Greatest
-mod Rounds
 pub mod LegalLaws
+pub mod FirstEntry

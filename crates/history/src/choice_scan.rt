@@ -1,6 +1,6 @@
 // The choices of sessions, by scanning the entries from the newest one backwards.
 ghost use Rattle.std.specs.Prelude.{◌≡◌, reverse, option_map, option_copied};
-ghost use Rattle.history.specs.Sessions.{chooses, newest, hooks_chosen, champions_chosen, last_hooks, settles, pending, is_pending, pending_champions};
+ghost use Rattle.history.specs.Sessions.{chooses, newest, hooks_chosen, champions_chosen, last_hooks, settles, pending, pending_champions};
 
 use crate::session_scan::{aborts, commits};
 use crate::{Entry, Point};
@@ -75,13 +75,6 @@ pub(crate) fn pending(session: u32, entries: &[Entry]) -> Option<&[ManifestId]>
         Some(entry) => champions_chosen(&entry.point),
         None => None,
     }
-}
-
-#[tactic(auto, unfolding(crate::specs::Sessions::is_pending))]
-pub(crate) fn is_pending(session: u32, entries: &[Entry]) -> bool
-    ensures { result ≡ is_pending session (reverse entries.now) }
-{
-    pending(session, entries).is_some()
 }
 
 /// The champions of the session's pending choice, none where no choice is pending. A choice is pending from a Choose

@@ -1,7 +1,6 @@
-// When names, ids and objects are the same or in order, and when one is among others.
-ghost use Rattle.std.specs.Prelude.{◌≡◌, ◌≤◌};
-ghost use Rattle.ss_base.specs.Ids.{same_name, same_manifest, same_container, same_object, has_name, has_manifest, has_container, has_object, are_distinct};
-ghost use Rattle.ss_base.specs.Order.{is_container_before, is_before_first, are_ascending};
+// When names, ids and objects are the same, and when one is among others.
+ghost use Rattle.std.specs.Prelude.{◌≡◌};
+ghost use Rattle.ss_base.specs.Ids.{same_name, same_manifest, same_container, same_object, has_name, has_manifest, has_container, has_object};
 
 use ss_base::{ContainerId, ManifestId, Name, Object};
 
@@ -59,40 +58,4 @@ pub(crate) fn has_object(object: &Object, objects: &[Object]) -> bool
     ensures { result ≡ has_object object.now objects.now }
 {
     objects.iter().any(|other| same_object(object, other))
-}
-
-#[tactic(auto, unfolding(ss_base::specs::Ids::are_distinct))]
-pub(crate) fn are_distinct(names: &[Name]) -> bool
-    ensures { result ≡ are_distinct names.now }
-{
-    match names {
-        [] => true,
-        [name, rest @ ..] => !has_name(name, rest) && are_distinct(rest),
-    }
-}
-
-fn is_container_before(a: ContainerId, b: ContainerId) -> bool
-    ensures { result ≡ is_container_before a b }
-{
-    a.session < b.session || (a.session == b.session && a.ordinal < b.ordinal)
-}
-
-#[tactic(auto, unfolding(ss_base::specs::Order::is_before_first))]
-fn is_before_first(id: ContainerId, ids: &[ContainerId]) -> bool
-    ensures { result ≡ is_before_first id ids.now }
-{
-    match ids {
-        [] => true,
-        [other, ..] => is_container_before(id, *other),
-    }
-}
-
-#[tactic(auto, unfolding(ss_base::specs::Order::are_ascending))]
-pub(crate) fn are_ascending(ids: &[ContainerId]) -> bool
-    ensures { result ≡ are_ascending ids.now }
-{
-    match ids {
-        [] => true,
-        [id, rest @ ..] => is_before_first(*id, rest) && are_ascending(rest),
-    }
 }

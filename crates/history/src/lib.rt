@@ -1,12 +1,10 @@
 //! The history of a store: what the entries of its journal say of sessions, hooks and objects, and which may follow.
 #![tactic(auto)]
 
-mod champions_scan;
 mod choice_scan;
 mod ids;
 mod known_scan;
-mod legal_test;
-mod legality;
+mod limits_scan;
 mod logged;
 mod need_scan;
 mod own_ends;
@@ -22,8 +20,7 @@ pub use journal_entry::{
     Entry, Items, Point, Seen, Totals, are_counts, decode_entry, encode_entry, one_reading,
     point_weight,
 };
-pub use legal_test::first_illegal;
-pub use legality::is_within;
+pub use limits_scan::is_within;
 pub use logged::Logged;
 pub use need_scan::erasable;
 pub use own_ends::own_end;
@@ -34,10 +31,4 @@ pub use standing_scan::standing;
 pub use totals_scan::totals;
 
 #[cfg(test)]
-mod entry_tables;
-#[cfg(test)]
 mod scan_tests;
-#[cfg(test)]
-mod short_histories;
-#[cfg(test)]
-mod worked_history_tests;

@@ -1,6 +1,6 @@
 // The readings of streams, by scanning the entries from the newest one backwards.
-ghost use Rattle.std.specs.Prelude.{◌≡◌, ◌≤◌, length, reverse, option_copied};
-ghost use Rattle.history.specs.Sessions.{has, newest, reading_begun, looks_some, reading_count, looks, ends, is_reading, is_looked_by};
+ghost use Rattle.std.specs.Prelude.{◌≡◌, ◌≤◌, length, reverse};
+ghost use Rattle.history.specs.Sessions.{has, reading_begun, looks_some, reading_count, looks, ends, is_reading};
 
 use crate::{Entry, Point, Seen};
 
@@ -73,21 +73,4 @@ pub(crate) fn is_reading(reader: u32, entries: &[Entry]) -> bool
     ensures { result ≡ is_reading reader (reverse entries.now) }
 {
     has_looked(reader, entries) && !has_ended(reader, entries)
-}
-
-#[tactic(auto, unfolding(crate::specs::Sessions::newest))]
-pub(crate) fn look_of(reader: u32, entries: &[Entry]) -> Option<&Entry>
-    ensures { option_copied result ≡ newest (looks reader) (reverse entries.now) }
-{
-    entries.iter().rev().find(|e| looks(reader, &e.point))
-}
-
-#[tactic(auto, unfolding(crate::specs::Sessions::is_looked_by, crate::specs::Sessions::author_of))]
-pub(crate) fn is_looked_by(author: u32, reader: u32, entries: &[Entry]) -> bool
-    ensures { result ≡ is_looked_by author reader (reverse entries.now) }
-{
-    match look_of(reader, entries) {
-        Some(entry) => author == entry.author,
-        None => false,
-    }
 }

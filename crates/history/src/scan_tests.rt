@@ -1,53 +1,110 @@
 // What scans of a history answer.
-use crate::entry_tables::Step::Commit;
-use crate::entry_tables::*;
-use crate::short_histories::Past::{Backups, Champions, Reading, Segments};
-use crate::short_histories::*;
 use crate::*;
-use ss_base::{ContainerId, ManifestId, Standing, StreamName};
+use ss_base::{ContainerId, ManifestId, Name, Object, Standing, StreamName};
+use std::alloc::Global;
 use std::test::Fail;
 
-// A history, a name, whether it is held, and the session that is retained under it; the replies of a Begin and of a
-// Look.
-type Reply = (
-    Past,
-    &'static [u8],
-    bool,
-    Option<u32>,
-    Option<u32>,
-    Option<Seen>,
-);
+const H: Name = Name([0; 32]);
 
-const FIRST: Seen = Seen {
-    reader: 0,
+const M: ManifestId = ManifestId { session: 0, seq: 0 };
+
+const C: ContainerId = ContainerId {
     session: 0,
+    ordinal: 2,
 };
 
-const SECOND: Seen = Seen {
-    reader: 1,
-    session: 0,
-};
+fn stream(text: &str) -> Result<StreamName, Fail> {
+    Ok(StreamName::new(text.as_bytes()).ok_or("a stream name")?)
+}
 
-fn replies() -> [Reply; 9] {
-    [
-        (Backups(0), b"zeros", false, None, Some(0), None),
-        (Backups(1), b"zeros", true, None, None, None),
-        (Backups(4), b"zeros", true, Some(0), None, Some(FIRST)),
-        (Backups(4), b"again", false, None, Some(1), None),
-        (Backups(10), b"zeros", false, None, Some(2), None),
-        (Segments(6), b"x", true, None, None, None),
-        (Segments(7), b"x", false, None, Some(1), None),
-        (Reading(5), b"x", true, Some(0), None, Some(SECOND)),
-        (Reading(6), b"x", false, None, Some(1), None),
-    ]
+fn choose(alloc: Global, session: u32, champions: &[ManifestId]) -> Result<Point, Fail> {
+    Ok(Point::Choose {
+        session,
+        hooks: Items::new(Vec::from_slice(alloc, &[H])?),
+        champions: Items::new(Vec::from_slice(alloc, champions)?),
+    })
+}
+
+fn commit(alloc: Global) -> Result<Point, Fail> {
+    Ok(Point::Commit {
+        manifest: M,
+        content: Name([1; 32]),
+        text: Name([2; 32]),
+        chunks: 4,
+        bytes: 769,
+        fresh: 2,
+        fresh_bytes: 257,
+        uses: Items::new(Vec::from_slice(alloc, &[C])?),
+    })
+}
+
+fn add(entries: &mut Vec<Entry>, author: u32, point: Point) -> Result<(), Fail> {
+    entries.push(Entry { author, point })?;
+    Ok(())
+}
+
+// A stream of one segment is stored.
+fn stored(alloc: Global) -> Result<Vec<Entry>, Fail> {
+    let mut entries = Vec::new(alloc);
+    let name = stream("x")?;
+    let session = Some(0);
+    add(&mut entries, 0, Point::Begin { name, session })?;
+    add(&mut entries, 0, choose(alloc, 0, &[])?)?;
+    add(&mut entries, 0, commit(alloc)?)?;
+    let finish = Point::Finish {
+        session: 0,
+        containers: 3,
+    };
+    add(&mut entries, 0, finish)?;
+    Ok(entries)
+}
+
+// Then it is read, and a second session has its manifest as champion.
+fn under_way(alloc: Global) -> Result<Vec<Entry>, Fail> {
+    let mut entries = stored(alloc)?;
+    let name = stream("x")?;
+    let seen = Some(Seen {
+        reader: 0,
+        session: 0,
+    });
+    add(&mut entries, 1, Point::Look { name, seen })?;
+    let name = stream("y")?;
+    let session = Some(1);
+    add(&mut entries, 2, Point::Begin { name, session })?;
+    add(&mut entries, 2, choose(alloc, 1, &[M])?)?;
+    Ok(entries)
+}
+
+// Then the stream is deleted, and what was under way ends.
+fn ended(alloc: Global) -> Result<Vec<Entry>, Fail> {
+    let mut entries = under_way(alloc)?;
+    let name = stream("x")?;
+    let session = Some(0);
+    add(&mut entries, 3, Point::Delete { name, session })?;
+    let abort = Point::Abort {
+        session: 1,
+        containers: 0,
+        texts: 0,
+    };
+    add(&mut entries, 2, abort)?;
+    add(&mut entries, 1, Point::Done { reader: 0 })?;
+    Ok(entries)
 }
 
 #[test]
-fn replies_to_begins_and_looks(rt: HostRuntime) -> Result<(), Fail> {
-    for (past, name, held, kept, begin, look) in replies() {
-        let entries = entries_of(rt.alloc(), past)?;
-        let name = StreamName::new(name).ok_or("a stream name")?;
-        assert!(rt; entries.len() <= 10);
+fn names_and_replies(rt: HostRuntime) -> Result<(), Fail> {
+    let entries = under_way(rt.alloc())?;
+    assert!(rt; entries.len() <= 10);
+    let look = Some(Seen {
+        reader: 1,
+        session: 0,
+    });
+    for (text, held, kept, begin, look) in [
+        ("x", true, Some(0), None, look),
+        ("y", true, None, None, None),
+        ("z", false, None, Some(2), None),
+    ] {
+        let name = stream(text)?;
         assert_eq!(rt; is_held(&entries, &name), held);
         assert_eq!(rt; retained(&entries, &name), kept);
         assert_eq!(rt; reply_to_begin(&entries, &name), begin);
@@ -56,82 +113,90 @@ fn replies_to_begins_and_looks(rt: HostRuntime) -> Result<(), Fail> {
     Ok(())
 }
 
-// A history, a session, the champions of its pending choice, and the end of its own containers.
-fn sessions() -> [(Past, u32, &'static [ManifestId], u64); 8] {
-    [
-        (Backups(2), 0, &[], 0),
-        (Backups(3), 0, &[], 1),
-        (Backups(6), 1, &[M00], 0),
-        (Backups(7), 1, &[], 0),
-        (Segments(3), 0, &[], 2),
-        (Segments(6), 0, &[M01], 2),
-        (Segments(7), 0, &[], 2),
-        (Champions(12), 2, &[M10], 1),
-    ]
-}
-
 #[test]
 fn pending_champions_and_own_containers(rt: HostRuntime) -> Result<(), Fail> {
-    for (past, session, champions, end) in sessions() {
-        let entries = entries_of(rt.alloc(), past)?;
-        assert_eq!(rt; pending_champions(&entries, session), champions);
-        assert_eq!(rt; own_end(&entries, session), end);
-    }
+    let entries = under_way(rt.alloc())?;
+    assert!(rt; pending_champions(&entries, 0).is_empty());
+    assert_eq!(rt; pending_champions(&entries, 1), [M].as_slice());
+    assert_eq!(rt; own_end(&entries, 0), 3);
+    assert_eq!(rt; own_end(&entries, 1), 0);
     Ok(())
 }
 
-#[test]
-fn greatest_ordinals(rt: HostRuntime) -> Result<(), Fail> {
-    let alloc = rt.alloc();
-    let rows: [(&[ContainerId], u64); 2] = [
-        (&[C0_LAST], 4_294_967_295),
-        (&[C00, C0_PAST, C10], 4_294_967_296),
-    ];
-    for (uses, end) in rows {
-        let mut entries = entries_of(alloc, Backups(2))?;
-        add(alloc, &mut entries, 0, Commit(M00, LEAST, uses))?;
-        assert_eq!(rt; own_end(&entries, 0), end);
-    }
-    Ok(())
-}
-
-// A history, limits of entries and of weight, and whether it is within them. Two hooks were chosen in each.
-fn limits() -> [(Past, u32, u32, bool); 7] {
-    [
-        (Backups(2), 3, 2, true),
-        (Backups(2), 2, 2, false),
-        (Backups(2), 3, 1, false),
-        (Reading(4), 4, 3, true),
-        (Reading(5), 6, 3, true),
-        (Reading(5), 5, 3, false),
-        (Reading(8), 8, 3, true),
-    ]
-}
-
+// Seven entries with a session and a reading to end; two hooks and a container are listed.
 #[test]
 fn limits_with_room_for_ends(rt: HostRuntime) -> Result<(), Fail> {
-    for (past, entries, weight, within) in limits() {
+    let history = under_way(rt.alloc())?;
+    assert!(rt; history.len() <= 10);
+    for (entries, weight, within) in [(9, 3, true), (8, 3, false), (9, 2, false)] {
         let limits = Limits { entries, weight };
-        let past = entries_of(rt.alloc(), past)?;
-        assert!(rt; past.len() <= 10);
-        assert_eq!(rt; is_within(&past, &limits), within);
+        assert_eq!(rt; is_within(&history, &limits), within);
     }
     Ok(())
 }
 
 #[test]
-fn standings_totals_and_what_can_be_erased(rt: HostRuntime) -> Result<(), Fail> {
+fn standings_and_what_can_be_erased(rt: HostRuntime) -> Result<(), Fail> {
     let alloc = rt.alloc();
-    let entries = entries_of(alloc, Backups(10))?;
-    assert!(rt; entries.len() <= 10);
-    let stood = standing(alloc, &entries, &H, 8)?;
-    assert_eq!(rt;
-        stood.as_slice(),
-        [Standing { id: M10, stamp: 6 }].as_slice()
-    );
-    let dead = erasable(alloc, &entries)?;
-    assert_eq!(rt; dead.as_slice(), [M].as_slice());
-    let none = totals(alloc, &[])?;
-    assert_eq!(rt; none.entries, 0);
+    let before = under_way(alloc)?;
+    assert!(rt; before.len() <= 10);
+    let stood = standing(alloc, &before, &H, 8)?;
+    assert_eq!(rt; stood.as_slice(), [Standing { id: M, stamp: 2 }].as_slice());
+    let after = ended(alloc)?;
+    assert!(rt; after.len() <= 10);
+    let dead = erasable(alloc, &after)?;
+    assert_eq!(rt; dead.len(), 4);
+    assert_eq!(rt; dead[2], Object::Container(C));
+    assert_eq!(rt; dead[3], Object::Manifest(M));
+    Ok(())
+}
+
+// The entries of a stream that is retained, without its choice.
+#[tactic(auto, unfolding(crate::specs::TotalsOf::objects_named))]
+fn totals_of_a_stream(alloc: Global, name: StreamName) -> Result<Totals, Fail> {
+    let entries = [
+        Entry {
+            author: 0,
+            point: Point::Begin {
+                name,
+                session: Some(0),
+            },
+        },
+        Entry {
+            author: 0,
+            point: Point::Commit {
+                manifest: M,
+                content: Name([1; 32]),
+                text: Name([2; 32]),
+                chunks: 4,
+                bytes: 769,
+                fresh: 2,
+                fresh_bytes: 257,
+                uses: Items::new(Vec::new(alloc)),
+            },
+        },
+        Entry {
+            author: 0,
+            point: Point::Finish {
+                session: 0,
+                containers: 3,
+            },
+        },
+    ];
+    Ok(totals(alloc, &entries)?)
+}
+
+#[test]
+fn totals_of_entries(rt: HostRuntime) -> Result<(), Fail> {
+    let found = totals_of_a_stream(rt.alloc(), stream("x")?)?;
+    let wanted = Totals {
+        streams: 1,
+        bytes: 769,
+        fresh: 257,
+        containers: 3,
+        reclaimed: 0,
+        entries: 3,
+    };
+    assert_eq!(rt; found, wanted);
     Ok(())
 }

@@ -1,6 +1,6 @@
 // Sessions of a history and the names of their streams, by scanning its entries from the newest one backwards.
 ghost use Rattle.std.specs.Prelude.{◌≡◌, ◌≤◌, length, reverse, option_copied};
-ghost use Rattle.history.specs.Sessions.{is_number, session_begun, session_under, begins_some, session_count, begins, commits, finishes, aborts, deletes, closes, has, newest, is_unfinished, is_closed, is_retained, retained, is_held, is_begun_by, commits_of};
+ghost use Rattle.history.specs.Sessions.{is_number, session_begun, session_under, begins_some, session_count, begins, commits, finishes, aborts, deletes, closes, has, newest, is_unfinished, is_closed, is_retained, retained, is_held, commits_of};
 
 use crate::{Entry, Point};
 use ss_base::StreamName;
@@ -187,23 +187,6 @@ pub(crate) fn session_count(entries: &[Entry]) -> usize
         }
     }
     count
-}
-
-#[tactic(auto, unfolding(crate::specs::Sessions::newest))]
-pub(crate) fn begin_of(session: u32, entries: &[Entry]) -> Option<&Entry>
-    ensures { option_copied result ≡ newest (begins session) (reverse entries.now) }
-{
-    entries.iter().rev().find(|e| begins(session, &e.point))
-}
-
-#[tactic(auto, unfolding(crate::specs::Sessions::is_begun_by, crate::specs::Sessions::author_of))]
-pub(crate) fn is_begun_by(author: u32, session: u32, entries: &[Entry]) -> bool
-    ensures { result ≡ is_begun_by author session (reverse entries.now) }
-{
-    match begin_of(session, entries) {
-        Some(entry) => author == entry.author,
-        None => false,
-    }
 }
 
 #[tactic(auto, unfolding(crate::specs::Sessions::newest))]

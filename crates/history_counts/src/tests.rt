@@ -1,14 +1,8 @@
-ghost use Rattle.std.specs.Prelude.{◌≡◌, [], IfOk};
-ghost use Rattle.history_laws.specs.EntryNumbers.{CommitThese};
-ghost use Rattle.history_counts.specs.CountsOf.{AreCountsOf};
-ghost use Rattle.history_counts.specs.Streams.{pins_of, stream_of, commits_in};
-
 use super::*;
-use history::{Entry, Items, Limits, Point, Rules, first_illegal};
+use history::{Entry, Items, Limits, Point, Rules};
 use pins_counts::Counts;
 use ss_base::{ContainerId, ManifestId, Name, Object, StreamName};
 use std::alloc::Global;
-use std::process::Abort;
 use std::test::Fail;
 
 const M00: ManifestId = ManifestId { session: 0, seq: 0 };
@@ -28,16 +22,8 @@ const RULES: Rules = Rules {
     },
 };
 
-#[tactic(auto, unfolding(crate::specs::Streams::pins_of, crate::specs::Streams::stream_of, crate::specs::Streams::commits_in, history_laws::specs::EntryNumbers::CommitThese))]
-fn begin() -> Result<Point, Fail>
-    ensures pins { IfOk result (λ point. CommitThese [] (pins_of point []) []) }
-    ensures stream { IfOk result (λ point. [] ≡ commits_in (stream_of point []) []) }
-{
-    let name = StreamName::new(b"x").ok_or("a stream name")?;
-    Ok(Point::Begin {
-        name,
-        session: Some(0),
-    })
+fn name() -> Result<StreamName, Fail> {
+    Ok(StreamName::new(b"x").ok_or("a stream name")?)
 }
 
 fn commit(alloc: Global) -> Result<Point, Fail> {
@@ -65,7 +51,11 @@ fn reclaim(alloc: Global) -> Result<Point, Fail> {
 fn room_changes_no_number(rt: HostRuntime) -> Result<(), Fail> {
     let alloc = rt.alloc();
     let mut counts = Counts::new(alloc);
-    for point in [begin()?, commit(alloc)?, reclaim(alloc)?] {
+    let begin = Point::Begin {
+        name: name()?,
+        session: Some(0),
+    };
+    for point in [begin, commit(alloc)?, reclaim(alloc)?] {
         let entry = Entry { author: 0, point };
         make_room(&mut counts, &entry)?;
         assert_eq!(rt; counts.holds(M00), 0);
@@ -76,28 +66,20 @@ fn room_changes_no_number(rt: HostRuntime) -> Result<(), Fail> {
     Ok(())
 }
 
-// The first entry of a history.
-fn add_first(rt: &impl Abort, alloc: Global, counts: &mut Counts, entry: Entry) -> Result<(), Fail>
-    requires agrees { AreCountsOf counts.old [] }
-    requires pins { CommitThese [] (pins_of entry.point []) [] }
-    requires stream { [] ≡ commits_in (stream_of entry.point []) [] }
-{
-    make_room(counts, &entry)?;
-    let entries = [entry];
-    let legal = first_illegal(alloc, &RULES, &entries)?.is_none();
-    assert!(rt; legal);
-    add_entry(counts, &RULES, &[], &entries[0], &[], &[]);
-    Ok(())
-}
-
 // A session begins: it has nothing yet.
 #[test]
 fn a_session_begins(rt: HostRuntime) -> Result<(), Fail> {
     let alloc = rt.alloc();
     let mut counts = Counts::new(alloc);
     nothing_is_counted();
-    let point = begin()?;
-    add_first(&rt, alloc, &mut counts, Entry { author: 0, point })?;
+    let name = name()?;
+    let session = Some(0);
+    let begin = Entry {
+        author: 0,
+        point: Point::Begin { name, session },
+    };
+    make_room(&mut counts, &begin)?;
+    add_entry(&mut counts, &RULES, &[], &begin, &[], &[]);
     assert!(rt; counts.dead(alloc, 16)?.is_empty());
     Ok(())
 }

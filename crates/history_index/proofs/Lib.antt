@@ -1,4 +1,3 @@
 pub mod RetireLaws
 pub mod ChoiceLaws
 pub mod FollowLaws
-pub mod TestLaws

@@ -8,6 +8,4 @@ mod totals;
 pub use tally::Tally;
 
 #[cfg(test)]
-mod entry_rows;
-#[cfg(test)]
 mod tests;

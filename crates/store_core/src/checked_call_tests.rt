@@ -1,16 +1,15 @@
-// Calls that record a step of a table. Each is made where its conditions hold, its answer is compared with the step,
-// and whether an entry was added is told: none is where the limits would be broken.
+// Calls that record an entry. Each is made where its conditions hold, its answer is compared with the entry, and it is
+// told whether the entry was added: it is not where the limits would be broken.
 ghost use Rattle.std.specs.Prelude.{◌≡◌, ◌≤◌, ◌<◌, ◌^◌, length, true, false};
 ghost use Rattle.history.specs.OwnEnd.{own_end};
 ghost use Rattle.history.specs.Sessions.{is_looked_by, is_pending, is_reading};
 ghost use Rattle.history.specs.Legal.{are_texts, are_uses, is_open_to};
 ghost use Rattle.store_core.specs.View.{past_of};
 
-use crate::entry_tables::*;
 use crate::hooks::are_hooks;
 use crate::{BeginFault, Kept, NameFault, PointFault, State, Stored, removal_object};
-use history::{Entry, Point, are_counts};
-use ss_base::{ContainerId, ManifestId, Name, Object};
+use history::{Entry, Point, Seen, Totals, are_counts};
+use ss_base::{ContainerId, ManifestId, Name, Object, StreamName};
 use std::alloc::Global;
 use std::process;
 use std::test::Fail;
@@ -131,10 +130,10 @@ fn begin<const L: usize, const M: usize>(
     rt: &impl process::Abort,
     state: &mut State<L, M>,
     author: u32,
-    name: &str,
+    name: StreamName,
     reply: Option<u32>,
 ) -> Result<bool, Fail> {
-    match state.begin(author, stream(name)?) {
+    match state.begin(author, name) {
         Ok(session) => assert_eq!(rt; reply, Some(session)),
         Err(BeginFault::Taken) => assert_eq!(rt; reply, None),
         Err(BeginFault::Full) => return Ok(false),
@@ -176,34 +175,26 @@ fn choose<const L: usize, const M: usize>(
 
 fn commit<const L: usize, const M: usize>(
     rt: &impl process::Abort,
-    alloc: Global,
     state: &mut State<L, M>,
     author: u32,
     manifest: ManifestId,
-    counts: [u32; 4],
-    uses: &[ContainerId],
+    stored: Stored,
 ) -> Result<bool, Fail> {
-    let [chunks, bytes, fresh, fresh_bytes] = counts;
     let session = manifest.session;
-    if !are_counts(chunks, bytes, fresh, fresh_bytes) {
+    if !are_counts(
+        stored.chunks,
+        stored.bytes,
+        stored.fresh,
+        stored.fresh_bytes,
+    ) {
         return Err("no counts of a commit")?;
     }
     if !is_open(state, author, session) || !is_pending(state, session) {
         return Err("no commit is awaited")?;
     }
-    let uses = Vec::from_slice(alloc, uses)?;
-    if !are_uses(state, session, uses.as_slice()) {
+    if !are_uses(state, session, stored.uses.as_slice()) {
         return Err("no uses of a commit")?;
     }
-    let stored = Stored {
-        content: digest(CONTENT, manifest),
-        text: digest(TEXT, manifest),
-        chunks,
-        bytes,
-        fresh,
-        fresh_bytes,
-        uses,
-    };
     match state.commit(author, session, stored) {
         Ok(id) => assert_eq!(rt; id, manifest),
         Err(PointFault::Full) => return Ok(false),
@@ -249,10 +240,10 @@ fn delete<const L: usize, const M: usize>(
     rt: &impl process::Abort,
     state: &mut State<L, M>,
     author: u32,
-    name: &str,
+    name: StreamName,
     reply: Option<u32>,
 ) -> Result<bool, Fail> {
-    match state.delete(author, stream(name)?) {
+    match state.delete(author, name) {
         Ok(session) => assert_eq!(rt; reply, Some(session)),
         Err(NameFault::NoStream) => assert_eq!(rt; reply, None),
         Err(NameFault::Full) => return Ok(false),
@@ -266,12 +257,16 @@ fn look<const L: usize, const M: usize>(
     alloc: Global,
     state: &mut State<L, M>,
     author: u32,
-    name: &str,
-    reply: Option<(u32, u32)>,
+    name: StreamName,
+    reply: Option<Seen>,
 ) -> Result<bool, Fail> {
-    match state.look(alloc, author, stream(name)?) {
+    match state.look(alloc, author, name) {
         Ok(looked) => {
-            assert_eq!(rt; reply, Some((looked.reader, looked.session)));
+            let seen = Seen {
+                reader: looked.reader,
+                session: looked.session,
+            };
+            assert_eq!(rt; reply, Some(seen));
             let kept = looked.manifests.as_slice();
             let ids = ids_kept(rt, alloc, state.entries(), kept)?;
             let wanted = committed(alloc, state.entries(), looked.session)?;
@@ -321,40 +316,86 @@ fn stat<const L: usize, const M: usize>(
     rt: &impl process::Abort,
     state: &mut State<L, M>,
     author: u32,
-    numbers: [u64; 6],
+    wanted: Totals,
 ) -> Result<bool, Fail> {
     match state.stat(author) {
-        Ok(totals) => assert_eq!(rt; totals, totals_of(numbers)),
+        Ok(totals) => assert_eq!(rt; totals, wanted),
         Err(PointFault::Full) => return Ok(false),
         Err(PointFault::Memory) => return Err("memory")?,
     }
     Ok(true)
 }
 
-// Makes the call that records the step, and tells whether it added an entry.
+// What the commit of an entry says of its segment, and the manifest.
+fn stored_in(alloc: Global, point: &Point) -> Result<(ManifestId, Stored), Fail> {
+    let Point::Commit {
+        manifest,
+        content,
+        text,
+        chunks,
+        bytes,
+        fresh,
+        fresh_bytes,
+        uses,
+    } = point
+    else {
+        return Err("a commit")?;
+    };
+    let stored = Stored {
+        content: *content,
+        text: *text,
+        chunks: *chunks,
+        bytes: *bytes,
+        fresh: *fresh,
+        fresh_bytes: *fresh_bytes,
+        uses: Vec::from_slice(alloc, uses.as_slice())?,
+    };
+    Ok((*manifest, stored))
+}
+
+// Makes the call that records the entry, and tells whether it added the entry.
 pub(crate) fn call<const L: usize, const M: usize>(
     rt: &impl process::Abort,
     alloc: Global,
     state: &mut State<L, M>,
-    author: u32,
-    step: Step,
+    entry: &Entry,
 ) -> Result<bool, Fail> {
-    match step {
-        Step::Begin(name, reply) => begin(rt, state, author, name, reply),
-        Step::Choose(session, hooks, champions) => {
-            choose(rt, alloc, state, author, session, hooks, champions)
+    let author = entry.author;
+    match &entry.point {
+        Point::Begin { name, session } => begin(rt, state, author, *name, *session),
+        Point::Choose {
+            session,
+            hooks,
+            champions,
+        } => {
+            let champions = champions.as_slice();
+            choose(
+                rt,
+                alloc,
+                state,
+                author,
+                *session,
+                hooks.as_slice(),
+                champions,
+            )
         }
-        Step::Commit(manifest, counts, uses) => {
-            commit(rt, alloc, state, author, manifest, counts, uses)
+        Point::Commit { .. } => {
+            let (manifest, stored) = stored_in(alloc, &entry.point)?;
+            commit(rt, state, author, manifest, stored)
         }
-        Step::Finish(session, containers) => finish(state, author, session, containers),
-        Step::Abort(session, containers, texts) => {
-            abort(state, author, session, containers, texts)
-        }
-        Step::Delete(name, reply) => delete(rt, state, author, name, reply),
-        Step::Look(name, reply) => look(rt, alloc, state, author, name, reply),
-        Step::Done(reader) => done(state, author, reader),
-        Step::Reclaim(objects) => reclaim(rt, alloc, state, author, objects),
-        Step::Stat(numbers) => stat(rt, state, author, numbers),
+        Point::Finish {
+            session,
+            containers,
+        } => finish(state, author, *session, *containers),
+        Point::Abort {
+            session,
+            containers,
+            texts,
+        } => abort(state, author, *session, *containers, *texts),
+        Point::Delete { name, session } => delete(rt, state, author, *name, *session),
+        Point::Look { name, seen } => look(rt, alloc, state, author, *name, *seen),
+        Point::Done { reader } => done(state, author, *reader),
+        Point::Reclaim { objects } => reclaim(rt, alloc, state, author, objects.as_slice()),
+        Point::Stat { totals } => stat(rt, state, author, *totals),
     }
 }

@@ -1,430 +1,257 @@
 // Each way in which an entry can break the rule of its kind, and what is allowed beside it.
-use crate::OpenFault;
-use crate::OpenFault::{Illegal, UnfinishedReading, UnfinishedSession};
-use crate::entry_tables::Step::{
-    Abort, Begin, Choose, Commit, Delete, Done, Finish, Look, Reclaim, Stat,
-};
-use crate::entry_tables::*;
-use crate::history_tables::Past::{Backups, Champions, Reading, Segments};
-use crate::history_tables::*;
-use history::Limits;
-use ss_base::Object::{Container, Manifest};
-use ss_base::{ContainerId, Name};
+use crate::OpenFault::Illegal;
+use crate::cases::*;
+use crate::entry_lines::*;
+use history::{Entry, Items, Limits, Point};
+use ss_base::Object::Container;
+use ss_base::{ContainerId, ManifestId, Name};
 use std::alloc::Global;
-use std::process;
 use std::test::Fail;
 
-// What is shown, the entries before, the author, and what it records.
-type Row = (&'static str, Past, u32, Step<'static>);
-
-fn all_refused(rt: &impl process::Abort, alloc: Global, rows: &[Row]) -> Result<(), Fail> {
-    for (shown, past, author, step) in rows {
-        let mut entries = entries_of(alloc, *past)?;
-        let n = entries.len();
-        if n > 100 {
-            return Err("a long history")?;
-        }
-        add(alloc, &mut entries, *author, *step)?;
-        let answer = refusal(alloc, LIMITS, entries)?;
-        assert_eq!(rt; answer, Some(Illegal(n as u32)), "{shown}");
-    }
-    Ok(())
-}
-
-// What is shown, the entries before, the author, what it records, and what is left unfinished.
-type AllowedRow = (&'static str, Past, u32, Step<'static>, Option<OpenFault>);
-
-fn all_allowed(rt: &impl process::Abort, alloc: Global, rows: &[AllowedRow]) -> Result<(), Fail> {
-    for (shown, past, author, step, left) in rows {
-        let mut entries = entries_of(alloc, *past)?;
-        add(alloc, &mut entries, *author, *step)?;
-        let answer = refusal(alloc, LIMITS, entries)?;
-        assert_eq!(rt; answer, *left, "{shown}");
-    }
-    Ok(())
-}
-
-fn whole() -> [(Past, Option<OpenFault>); 4] {
-    [
-        (Backups(15), None),
-        (Segments(8), None),
-        (Champions(12), Some(UnfinishedSession(2))),
-        (Reading(9), None),
-    ]
+fn whole() -> &'static str {
+    "two backups: backups 15 => opens\n\
+     three segments: segments 8 => opens\n\
+     two champions: champions 12 => session 2\n\
+     deleted while read: reading 9 => opens"
 }
 
 #[test]
 fn whole_histories(rt: HostRuntime) -> Result<(), Fail> {
-    let alloc = rt.alloc();
-    for (past, left) in whole() {
-        let entries = entries_of(alloc, past)?;
-        assert_eq!(rt; refusal(alloc, LIMITS, entries)?, left);
-    }
-    Ok(())
+    all_answered(&rt, rt.alloc(), whole())
 }
 
-fn begins() -> [Row; 8] {
-    [
-        ("none, a new name", Backups(0), 0, Begin("zeros", None)),
-        ("none, deleted", Backups(10), 4, Begin("zeros", None)),
-        ("none, aborted", Segments(7), 1, Begin("x", None)),
-        ("unfinished", Backups(1), 1, Begin("zeros", Some(1))),
-        ("retained", Backups(4), 1, Begin("zeros", Some(1))),
-        ("too high", Backups(0), 0, Begin("zeros", Some(1))),
-        ("too high later", Backups(4), 1, Begin("again", Some(2))),
-        ("used before", Backups(4), 1, Begin("again", Some(0))),
-    ]
+fn begins() -> &'static str {
+    "none, a new name: backups 0 | a0 begin zeros taken => illegal 0\n\
+     none, deleted: backups 10 | a4 begin zeros taken => illegal 10\n\
+     none, aborted: segments 7 | a1 begin x taken => illegal 7\n\
+     unfinished: backups 1 | a1 begin zeros s1 => illegal 1\n\
+     retained: backups 4 | a1 begin zeros s1 => illegal 4\n\
+     too high: backups 0 | a0 begin zeros s1 => illegal 0\n\
+     too high later: backups 4 | a1 begin again s2 => illegal 4\n\
+     used before: backups 4 | a1 begin again s0 => illegal 4"
 }
 
 #[test]
 fn begins_that_are_refused(rt: HostRuntime) -> Result<(), Fail> {
-    all_refused(&rt, rt.alloc(), &begins())
+    all_answered(&rt, rt.alloc(), begins())
 }
 
-fn choices() -> [Row; 15] {
-    [
-        ("not begun", Backups(0), 0, Choose(0, &[H], &[])),
-        ("finished", Backups(4), 0, Choose(0, &[H], &[M00])),
-        ("aborted", Segments(7), 0, Choose(0, &[H], &[])),
-        ("another author", Backups(1), 1, Choose(0, &[H], &[])),
-        ("pending", Backups(2), 0, Choose(0, &[H], &[])),
-        ("a hook twice", Backups(1), 0, Choose(0, &[H, H], &[])),
-        ("twice, apart", Backups(1), 0, Choose(0, &[H, G, H], &[])),
-        ("a first bit", Backups(1), 0, Choose(0, &[H, NO_HOOK], &[])),
-        ("none stands", Backups(1), 0, Choose(0, &[H], &[M00])),
-        ("one missing", Backups(5), 1, Choose(1, &[H], &[])),
-        ("one twice", Backups(5), 1, Choose(1, &[H], &[M00, M00])),
-        ("one elsewhere", Champions(9), 2, Choose(2, &[H], &[M10])),
-        ("no first", Champions(9), 2, Choose(2, &[H, G], &[M00])),
-        ("no second", Champions(9), 2, Choose(2, &[H, G], &[M10])),
-        ("order", Champions(9), 2, Choose(2, &[H, G], &[M00, M10])),
-    ]
+fn choices() -> &'static str {
+    "not begun: backups 0 | a0 choose s0 hooks h champions - => illegal 0\n\
+     finished: backups 4 | a0 choose s0 hooks h champions m0.0 => illegal 4\n\
+     aborted: segments 7 | a0 choose s0 hooks h champions - => illegal 7\n\
+     another author: backups 1 | a1 choose s0 hooks h champions - => illegal 1\n\
+     pending: backups 2 | a0 choose s0 hooks h champions - => illegal 2\n\
+     a hook twice: backups 1 | a0 choose s0 hooks h,h champions - => illegal 1\n\
+     twice, apart: backups 1 | a0 choose s0 hooks h,g,h champions - => illegal 1\n\
+     a first bit: backups 1 | a0 choose s0 hooks h,n champions - => illegal 1\n\
+     none stands: backups 1 | a0 choose s0 hooks h champions m0.0 => illegal 1\n\
+     one missing: backups 5 | a1 choose s1 hooks h champions - => illegal 5\n\
+     one twice: backups 5 | a1 choose s1 hooks h champions m0.0,m0.0 => illegal 5\n\
+     one elsewhere: champions 9 | a2 choose s2 hooks h champions m1.0 => illegal 9\n\
+     no first: champions 9 | a2 choose s2 hooks h,g champions m0.0 => illegal 9\n\
+     no second: champions 9 | a2 choose s2 hooks h,g champions m1.0 => illegal 9\n\
+     order: champions 9 | a2 choose s2 hooks h,g champions m0.0,m1.0 => illegal 9"
 }
 
 #[test]
 fn choices_that_are_refused(rt: HostRuntime) -> Result<(), Fail> {
-    all_refused(&rt, rt.alloc(), &choices())
+    all_answered(&rt, rt.alloc(), choices())
 }
 
-fn commits() -> [Row; 10] {
-    [
-        ("not begun", Backups(0), 0, Commit(M00, LEAST, &[])),
-        ("no choice", Backups(1), 0, Commit(M00, LEAST, &[])),
-        ("no more", Backups(3), 0, Commit(M01, LEAST, &[])),
-        ("finished", Backups(4), 0, Commit(M01, LEAST, &[])),
-        ("aborted", Segments(7), 0, Commit(M02, LEAST, &[])),
-        ("another author", Backups(2), 1, Commit(M00, LEAST, &[])),
-        ("another session", Backups(2), 0, Commit(M10, LEAST, &[])),
-        ("too high", Backups(2), 0, Commit(M01, LEAST, &[])),
-        ("too high later", Segments(4), 0, Commit(M02, LEAST, &[])),
-        ("used before", Segments(4), 0, Commit(M00, LEAST, &[])),
-    ]
+fn commits() -> &'static str {
+    "not begun: backups 0 | a0 commit m0.0 chunks 1 bytes 1 fresh 0 0 uses - => illegal 0\n\
+     no choice: backups 1 | a0 commit m0.0 chunks 1 bytes 1 fresh 0 0 uses - => illegal 1\n\
+     no more: backups 3 | a0 commit m0.1 chunks 1 bytes 1 fresh 0 0 uses - => illegal 3\n\
+     finished: backups 4 | a0 commit m0.1 chunks 1 bytes 1 fresh 0 0 uses - => illegal 4\n\
+     aborted: segments 7 | a0 commit m0.2 chunks 1 bytes 1 fresh 0 0 uses - => illegal 7\n\
+     another author: backups 2 | a1 commit m0.0 chunks 1 bytes 1 fresh 0 0 uses - => illegal 2\n\
+     another session: backups 2 | a0 commit m1.0 chunks 1 bytes 1 fresh 0 0 uses - => illegal 2\n\
+     too high: backups 2 | a0 commit m0.1 chunks 1 bytes 1 fresh 0 0 uses - => illegal 2\n\
+     too high later: segments 4 | a0 commit m0.2 chunks 1 bytes 1 fresh 0 0 uses - => illegal 4\n\
+     used before: segments 4 | a0 commit m0.0 chunks 1 bytes 1 fresh 0 0 uses - => illegal 4"
 }
 
 #[test]
 fn commits_that_are_refused(rt: HostRuntime) -> Result<(), Fail> {
-    all_refused(&rt, rt.alloc(), &commits())
+    all_answered(&rt, rt.alloc(), commits())
 }
 
-fn counts() -> [(&'static str, [u32; 4]); 6] {
-    [
-        ("no chunk", [0, 1, 0, 0]),
-        ("4,097 chunks", [4097, 4097, 0, 0]),
-        ("fewer bytes than chunks", [2, 1, 0, 0]),
-        ("too many bytes", [4096, 45_875_201, 0, 0]),
-        ("more fresh than chunks", [2, 3, 3, 3]),
-        ("more fresh bytes than bytes", [2, 3, 2, 4]),
-    ]
+fn counts() -> &'static str {
+    "no chunk: backups 2 | a0 commit m0.0 chunks 0 bytes 1 fresh 0 0 uses c0.0 => illegal 2\n\
+     4,097 chunks: backups 2 | a0 commit m0.0 chunks 4097 bytes 4097 fresh 0 0 uses c0.0 => illegal 2\n\
+     fewer bytes than chunks: backups 2 | a0 commit m0.0 chunks 2 bytes 1 fresh 0 0 uses c0.0 => illegal 2\n\
+     too many bytes: backups 2 | a0 commit m0.0 chunks 4096 bytes 45875201 fresh 0 0 uses c0.0 => illegal 2\n\
+     more fresh than chunks: backups 2 | a0 commit m0.0 chunks 2 bytes 3 fresh 3 3 uses c0.0 => illegal 2\n\
+     more fresh bytes than bytes: backups 2 | a0 commit m0.0 chunks 2 bytes 3 fresh 2 4 uses c0.0 => illegal 2"
 }
 
 #[test]
 fn counts_that_are_refused(rt: HostRuntime) -> Result<(), Fail> {
-    for (shown, counts) in counts() {
-        let row = (shown, Backups(2), 0, Commit(M00, counts, &[C00]));
-        all_refused(&rt, rt.alloc(), &[row])?;
-    }
-    Ok(())
+    all_answered(&rt, rt.alloc(), counts())
 }
 
 // Uses that are not ascending, an own one with the ordinal 2^32 - 1, and those of other sessions that no champion of
 // the pending choice has.
-fn uses() -> [Row; 8] {
-    [
-        ("order", Backups(2), 0, Commit(M00, LEAST, &[C01, C00])),
-        ("twice", Backups(2), 0, Commit(M00, LEAST, &[C00, C00])),
-        ("sessions", Backups(6), 1, Commit(M10, LEAST, &[C10, C00])),
-        ("no ordinal", Backups(2), 0, Commit(M00, LEAST, &[C0_PAST])),
-        ("to come", Backups(2), 0, Commit(M00, LEAST, &[C10])),
-        ("unused", Backups(6), 1, Commit(M10, LEAST, &[C01])),
-        ("another's", Champions(10), 2, Commit(M20, LEAST, &[C10])),
-        ("earlier", Champions(12), 2, Commit(M21, LEAST, &[C00])),
-    ]
+fn uses() -> &'static str {
+    "order: backups 2 | a0 commit m0.0 chunks 1 bytes 1 fresh 0 0 uses c0.1,c0.0 => illegal 2\n\
+     twice: backups 2 | a0 commit m0.0 chunks 1 bytes 1 fresh 0 0 uses c0.0,c0.0 => illegal 2\n\
+     sessions: backups 6 | a1 commit m1.0 chunks 1 bytes 1 fresh 0 0 uses c1.0,c0.0 => illegal 6\n\
+     no ordinal: backups 2 | a0 commit m0.0 chunks 1 bytes 1 fresh 0 0 uses c0.4294967295 => illegal 2\n\
+     to come: backups 2 | a0 commit m0.0 chunks 1 bytes 1 fresh 0 0 uses c1.0 => illegal 2\n\
+     unused: backups 6 | a1 commit m1.0 chunks 1 bytes 1 fresh 0 0 uses c0.1 => illegal 6\n\
+     another's: champions 10 | a2 commit m2.0 chunks 1 bytes 1 fresh 0 0 uses c1.0 => illegal 10\n\
+     earlier: champions 12 | a2 commit m2.1 chunks 1 bytes 1 fresh 0 0 uses c0.0 => illegal 12"
 }
 
 #[test]
 fn uses_that_are_refused(rt: HostRuntime) -> Result<(), Fail> {
-    all_refused(&rt, rt.alloc(), &uses())
+    all_answered(&rt, rt.alloc(), uses())
 }
 
-fn finishes() -> [Row; 7] {
-    [
-        ("not begun", Backups(0), 0, Finish(0, 0)),
-        ("finished", Backups(4), 0, Finish(0, 1)),
-        ("aborted", Segments(7), 0, Finish(0, 2)),
-        ("another author", Backups(3), 1, Finish(0, 1)),
-        ("pending", Backups(2), 0, Finish(0, 1)),
-        ("an ordinal used", Backups(3), 0, Finish(0, 0)),
-        ("an ordinal used earlier", Segments(5), 0, Finish(0, 1)),
-    ]
+fn finishes() -> &'static str {
+    "not begun: backups 0 | a0 finish s0 containers 0 => illegal 0\n\
+     finished: backups 4 | a0 finish s0 containers 1 => illegal 4\n\
+     aborted: segments 7 | a0 finish s0 containers 2 => illegal 7\n\
+     another author: backups 3 | a1 finish s0 containers 1 => illegal 3\n\
+     pending: backups 2 | a0 finish s0 containers 1 => illegal 2\n\
+     an ordinal used: backups 3 | a0 finish s0 containers 0 => illegal 3\n\
+     an ordinal used earlier: segments 5 | a0 finish s0 containers 1 => illegal 5"
 }
 
 #[test]
 fn finishes_that_are_refused(rt: HostRuntime) -> Result<(), Fail> {
-    all_refused(&rt, rt.alloc(), &finishes())
+    all_answered(&rt, rt.alloc(), finishes())
 }
 
-fn aborts() -> [Row; 11] {
-    [
-        ("not begun", Backups(0), 0, Abort(0, 0, 0)),
-        ("finished", Backups(4), 0, Abort(0, 1, 1)),
-        ("aborted", Segments(7), 0, Abort(0, 2, 2)),
-        ("another author", Backups(3), 1, Abort(0, 1, 1)),
-        ("an ordinal used", Backups(3), 0, Abort(0, 0, 1)),
-        ("an ordinal used earlier", Segments(6), 0, Abort(0, 1, 2)),
-        ("a text less", Backups(3), 0, Abort(0, 1, 0)),
-        ("a text more", Backups(3), 0, Abort(0, 1, 2)),
-        ("two texts more, pending", Backups(2), 0, Abort(0, 0, 2)),
-        ("a text less, pending", Segments(6), 0, Abort(0, 2, 1)),
-        ("two more of two, pending", Segments(6), 0, Abort(0, 2, 4)),
-    ]
+fn aborts() -> &'static str {
+    "not begun: backups 0 | a0 abort s0 containers 0 texts 0 => illegal 0\n\
+     finished: backups 4 | a0 abort s0 containers 1 texts 1 => illegal 4\n\
+     aborted: segments 7 | a0 abort s0 containers 2 texts 2 => illegal 7\n\
+     another author: backups 3 | a1 abort s0 containers 1 texts 1 => illegal 3\n\
+     an ordinal used: backups 3 | a0 abort s0 containers 0 texts 1 => illegal 3\n\
+     an ordinal used earlier: segments 6 | a0 abort s0 containers 1 texts 2 => illegal 6\n\
+     a text less: backups 3 | a0 abort s0 containers 1 texts 0 => illegal 3\n\
+     a text more: backups 3 | a0 abort s0 containers 1 texts 2 => illegal 3\n\
+     two texts more, pending: backups 2 | a0 abort s0 containers 0 texts 2 => illegal 2\n\
+     a text less, pending: segments 6 | a0 abort s0 containers 2 texts 1 => illegal 6\n\
+     two more of two, pending: segments 6 | a0 abort s0 containers 2 texts 4 => illegal 6"
 }
 
 #[test]
 fn aborts_that_are_refused(rt: HostRuntime) -> Result<(), Fail> {
-    all_refused(&rt, rt.alloc(), &aborts())
+    all_answered(&rt, rt.alloc(), aborts())
 }
 
-fn deletes() -> [Row; 6] {
-    [
-        ("none", Backups(9), 3, Delete("zeros", None)),
-        ("another session", Backups(9), 3, Delete("zeros", Some(1))),
-        ("a new name", Backups(0), 3, Delete("zeros", Some(0))),
-        ("unfinished", Backups(3), 3, Delete("zeros", Some(0))),
-        ("aborted", Segments(7), 3, Delete("x", Some(0))),
-        ("deleted", Backups(10), 3, Delete("zeros", Some(0))),
-    ]
+fn deletes() -> &'static str {
+    "none: backups 9 | a3 delete zeros none => illegal 9\n\
+     another session: backups 9 | a3 delete zeros s1 => illegal 9\n\
+     a new name: backups 0 | a3 delete zeros s0 => illegal 0\n\
+     unfinished: backups 3 | a3 delete zeros s0 => illegal 3\n\
+     aborted: segments 7 | a3 delete x s0 => illegal 7\n\
+     deleted: backups 10 | a3 delete zeros s0 => illegal 10"
 }
 
 #[test]
 fn deletes_that_are_refused(rt: HostRuntime) -> Result<(), Fail> {
-    all_refused(&rt, rt.alloc(), &deletes())
+    all_answered(&rt, rt.alloc(), deletes())
 }
 
-fn looks() -> [Row; 8] {
-    [
-        ("none", Reading(4), 1, Look("x", None)),
-        ("session", Backups(8), 1, Look("zeros", Some((0, 1)))),
-        ("a new name", Reading(0), 1, Look("x", Some((0, 0)))),
-        ("unfinished", Reading(3), 1, Look("x", Some((0, 0)))),
-        ("aborted", Segments(7), 1, Look("x", Some((0, 0)))),
-        ("deleted", Reading(6), 1, Look("x", Some((1, 0)))),
-        ("reader too high", Reading(4), 1, Look("x", Some((1, 0)))),
-        ("reader used before", Reading(5), 1, Look("x", Some((0, 0)))),
-    ]
+fn looks() -> &'static str {
+    "none: reading 4 | a1 look x none => illegal 4\n\
+     session: backups 8 | a1 look zeros r0 s1 => illegal 8\n\
+     a new name: reading 0 | a1 look x r0 s0 => illegal 0\n\
+     unfinished: reading 3 | a1 look x r0 s0 => illegal 3\n\
+     aborted: segments 7 | a1 look x r0 s0 => illegal 7\n\
+     deleted: reading 6 | a1 look x r1 s0 => illegal 6\n\
+     reader too high: reading 4 | a1 look x r1 s0 => illegal 4\n\
+     reader used before: reading 5 | a1 look x r0 s0 => illegal 5"
 }
 
 #[test]
 fn looks_that_are_refused(rt: HostRuntime) -> Result<(), Fail> {
-    all_refused(&rt, rt.alloc(), &looks())
+    all_answered(&rt, rt.alloc(), looks())
 }
 
-fn ends_of_readings() -> [Row; 4] {
-    [
-        ("not begun", Reading(4), 1, Done(0)),
-        ("another reader", Reading(5), 1, Done(1)),
-        ("another author", Reading(5), 2, Done(0)),
-        ("done", Reading(8), 1, Done(0)),
-    ]
+fn ends_of_readings() -> &'static str {
+    "not begun: reading 4 | a1 done r0 => illegal 4\n\
+     another reader: reading 5 | a1 done r1 => illegal 5\n\
+     another author: reading 5 | a2 done r0 => illegal 5\n\
+     done: reading 8 | a1 done r0 => illegal 8"
 }
 
 #[test]
 fn ends_of_readings_that_are_refused(rt: HostRuntime) -> Result<(), Fail> {
-    all_refused(&rt, rt.alloc(), &ends_of_readings())
+    all_answered(&rt, rt.alloc(), ends_of_readings())
 }
 
-fn reclaims() -> [Row; 11] {
-    [
-        ("none named", Backups(10), 4, Reclaim(&[])),
-        ("a container less", Backups(13), 7, Reclaim(&[N])),
-        ("a manifest less", Backups(13), 7, Reclaim(&[C])),
-        ("order", Reading(8), 3, Reclaim(&[M, C])),
-        ("used", Backups(10), 4, Reclaim(&[C, M])),
-        ("retained", Backups(9), 4, Reclaim(&[M])),
-        ("unfinished", Segments(6), 1, Reclaim(&[C])),
-        ("being read", Reading(6), 3, Reclaim(&[C, M])),
-        ("unknown", Backups(10), 4, Reclaim(&[M, Manifest(M01)])),
-        ("twice", Backups(10), 4, Reclaim(&[M, M])),
-        ("named before", Backups(11), 4, Reclaim(&[M])),
-    ]
+fn reclaims() -> &'static str {
+    "none named: backups 10 | a4 reclaim - => illegal 10\n\
+     a container less: backups 13 | a7 reclaim m1.0 => illegal 13\n\
+     a manifest less: backups 13 | a7 reclaim c0.0 => illegal 13\n\
+     order: reading 8 | a3 reclaim m0.0,c0.0 => illegal 8\n\
+     used: backups 10 | a4 reclaim c0.0,m0.0 => illegal 10\n\
+     retained: backups 9 | a4 reclaim m0.0 => illegal 9\n\
+     unfinished: segments 6 | a1 reclaim c0.0 => illegal 6\n\
+     being read: reading 6 | a3 reclaim c0.0,m0.0 => illegal 6\n\
+     unknown: backups 10 | a4 reclaim m0.0,m0.1 => illegal 10\n\
+     twice: backups 10 | a4 reclaim m0.0,m0.0 => illegal 10\n\
+     named before: backups 11 | a4 reclaim m0.0 => illegal 11"
 }
 
 #[test]
 fn reclaims_that_are_refused(rt: HostRuntime) -> Result<(), Fail> {
-    all_refused(&rt, rt.alloc(), &reclaims())
+    all_answered(&rt, rt.alloc(), reclaims())
 }
 
-fn totals_given() -> [Row; 6] {
-    [
-        ("streams", Backups(8), 2, Stat([1, 1538, 257, 1, 0, 8])),
-        ("bytes", Backups(8), 2, Stat([2, 1537, 257, 1, 0, 8])),
-        ("fresh", Backups(8), 2, Stat([2, 1538, 256, 1, 0, 8])),
-        ("containers", Backups(8), 2, Stat([2, 1538, 257, 2, 0, 8])),
-        ("reclaimed", Backups(8), 2, Stat([2, 1538, 257, 1, 1, 8])),
-        ("entries", Backups(8), 2, Stat([2, 1538, 257, 1, 0, 9])),
-    ]
+fn totals_given() -> &'static str {
+    "streams: backups 8 | a2 stat streams 1 bytes 1538 fresh 257 containers 1 reclaimed 0 entries 8 => illegal 8\n\
+     bytes: backups 8 | a2 stat streams 2 bytes 1537 fresh 257 containers 1 reclaimed 0 entries 8 => illegal 8\n\
+     fresh: backups 8 | a2 stat streams 2 bytes 1538 fresh 256 containers 1 reclaimed 0 entries 8 => illegal 8\n\
+     containers: backups 8 | a2 stat streams 2 bytes 1538 fresh 257 containers 2 reclaimed 0 entries 8 => illegal 8\n\
+     reclaimed: backups 8 | a2 stat streams 2 bytes 1538 fresh 257 containers 1 reclaimed 1 entries 8 => illegal 8\n\
+     entries: backups 8 | a2 stat streams 2 bytes 1538 fresh 257 containers 1 reclaimed 0 entries 9 => illegal 8"
 }
 
 #[test]
 fn totals_that_are_refused(rt: HostRuntime) -> Result<(), Fail> {
-    all_refused(&rt, rt.alloc(), &totals_given())
+    all_answered(&rt, rt.alloc(), totals_given())
 }
-
-// What is left unfinished.
-const OPEN_0: Option<OpenFault> = Some(UnfinishedSession(0));
-
-const OPEN_1: Option<OpenFault> = Some(UnfinishedSession(1));
-
-const OPEN_2: Option<OpenFault> = Some(UnfinishedSession(2));
-
-const READ_0: Option<OpenFault> = Some(UnfinishedReading(0));
 
 // Entries beside those above, kind by kind.
-fn allowed_begins_and_choices() -> [AllowedRow; 6] {
-    [
-        (
-            "begin, unfinished",
-            Backups(1),
-            1,
-            Begin("zeros", None),
-            OPEN_0,
-        ),
-        ("begin, retained", Backups(4), 1, Begin("zeros", None), None),
-        (
-            "begin, deleted",
-            Backups(10),
-            4,
-            Begin("zeros", Some(2)),
-            OPEN_2,
-        ),
-        (
-            "begin, aborted",
-            Segments(7),
-            1,
-            Begin("x", Some(1)),
-            OPEN_1,
-        ),
-        ("no hooks", Backups(1), 0, Choose(0, &[], &[]), OPEN_0),
-        (
-            "two",
-            Champions(9),
-            2,
-            Choose(2, &[H, G], &[M10, M00]),
-            OPEN_2,
-        ),
-    ]
-}
-
-fn allowed_commits() -> [AllowedRow; 5] {
-    [
-        ("no use", Backups(2), 0, Commit(M00, LEAST, &[]), OPEN_0),
-        (
-            "greatest",
-            Backups(2),
-            0,
-            Commit(M00, GREATEST, &[]),
-            OPEN_0,
-        ),
-        (
-            "last",
-            Backups(2),
-            0,
-            Commit(M00, LEAST, &[C0_LAST]),
-            OPEN_0,
-        ),
-        (
-            "both",
-            Backups(6),
-            1,
-            Commit(M10, LEAST, &[C00, C10]),
-            OPEN_1,
-        ),
-        (
-            "chosen",
-            Champions(12),
-            2,
-            Commit(M21, LEAST, &[C10]),
-            OPEN_2,
-        ),
-    ]
-}
-
-fn allowed_ends() -> [AllowedRow; 6] {
-    [
-        ("more containers", Backups(3), 0, Finish(0, 9), None),
-        ("above all ordinals", Segments(5), 0, Finish(0, 2), None),
-        ("abort at once", Backups(1), 0, Abort(0, 0, 0), None),
-        ("abort without a text", Backups(2), 0, Abort(0, 0, 0), None),
-        ("abort with one", Backups(2), 0, Abort(0, 0, 1), None),
-        ("abort with two", Segments(6), 0, Abort(0, 2, 2), None),
-    ]
-}
-
-fn other_allowed() -> [AllowedRow; 7] {
-    [
-        (
-            "nothing to delete",
-            Backups(0),
-            3,
-            Delete("zeros", None),
-            None,
-        ),
-        (
-            "delete, unfinished",
-            Backups(3),
-            3,
-            Delete("zeros", None),
-            OPEN_0,
-        ),
-        ("nothing to read", Reading(0), 1, Look("x", None), None),
-        ("look, unfinished", Reading(3), 1, Look("x", None), OPEN_0),
-        ("look, deleted", Reading(6), 1, Look("x", None), READ_0),
-        (
-            "a second reader",
-            Reading(5),
-            2,
-            Look("x", Some((1, 0))),
-            READ_0,
-        ),
-        (
-            "later totals",
-            Reading(9),
-            4,
-            Stat([0, 0, 0, 1, 2, 9]),
-            None,
-        ),
-    ]
+fn allowed() -> &'static str {
+    "begin, unfinished: backups 1 | a1 begin zeros taken => session 0\n\
+     begin, retained: backups 4 | a1 begin zeros taken => opens\n\
+     begin, deleted: backups 10 | a4 begin zeros s2 => session 2\n\
+     begin, aborted: segments 7 | a1 begin x s1 => session 1\n\
+     no hooks: backups 1 | a0 choose s0 hooks - champions - => session 0\n\
+     two: champions 9 | a2 choose s2 hooks h,g champions m1.0,m0.0 => session 2\n\
+     no use: backups 2 | a0 commit m0.0 chunks 1 bytes 1 fresh 0 0 uses - => session 0\n\
+     greatest: backups 2 | a0 commit m0.0 chunks 4096 bytes 45875200 fresh 4096 45875200 uses - => session 0\n\
+     last: backups 2 | a0 commit m0.0 chunks 1 bytes 1 fresh 0 0 uses c0.4294967294 => session 0\n\
+     both: backups 6 | a1 commit m1.0 chunks 1 bytes 1 fresh 0 0 uses c0.0,c1.0 => session 1\n\
+     chosen: champions 12 | a2 commit m2.1 chunks 1 bytes 1 fresh 0 0 uses c1.0 => session 2\n\
+     more containers: backups 3 | a0 finish s0 containers 9 => opens\n\
+     above all ordinals: segments 5 | a0 finish s0 containers 2 => opens\n\
+     abort at once: backups 1 | a0 abort s0 containers 0 texts 0 => opens\n\
+     abort without a text: backups 2 | a0 abort s0 containers 0 texts 0 => opens\n\
+     abort with one: backups 2 | a0 abort s0 containers 0 texts 1 => opens\n\
+     abort with two: segments 6 | a0 abort s0 containers 2 texts 2 => opens\n\
+     nothing to delete: backups 0 | a3 delete zeros none => opens\n\
+     delete, unfinished: backups 3 | a3 delete zeros none => session 0\n\
+     nothing to read: reading 0 | a1 look x none => opens\n\
+     look, unfinished: reading 3 | a1 look x none => session 0\n\
+     look, deleted: reading 6 | a1 look x none => reading 0\n\
+     a second reader: reading 5 | a2 look x r1 s0 => reading 0\n\
+     later totals: reading 9 | a4 stat streams 0 bytes 0 fresh 0 containers 1 reclaimed 2 entries 9 => opens"
 }
 
 #[test]
 fn entries_beside_those_that_are_refused(rt: HostRuntime) -> Result<(), Fail> {
-    let alloc = rt.alloc();
-    all_allowed(&rt, alloc, &allowed_begins_and_choices())?;
-    all_allowed(&rt, alloc, &allowed_commits())?;
-    all_allowed(&rt, alloc, &allowed_ends())?;
-    all_allowed(&rt, alloc, &other_allowed())
+    all_answered(&rt, rt.alloc(), allowed())
 }
 
-fn distinct_hooks(alloc: Global, n: u16) -> Result<Vec<Name>, Fail> {
+fn distinct_hooks(alloc: Global, n: u16) -> Result<Items<Name>, Fail> {
     let mut hooks = Vec::new(alloc);
     for i in 0..n {
         let [high, low] = i.to_be_bytes();
@@ -433,17 +260,16 @@ fn distinct_hooks(alloc: Global, n: u16) -> Result<Vec<Name>, Fail> {
         digest[1] = low;
         hooks.push(Name(digest))?;
     }
-    Ok(hooks)
+    Ok(Items::new(hooks))
 }
 
 #[test]
 fn too_many_hooks(rt: HostRuntime) -> Result<(), Fail> {
     let alloc = rt.alloc();
-    for (n, wanted) in [(4096, OPEN_0), (4097, Some(Illegal(1)))] {
-        let mut entries = entries_of(alloc, Backups(1))?;
-        let hooks = distinct_hooks(alloc, n)?;
-        add(alloc, &mut entries, 0, Choose(0, &hooks, &[]))?;
-        assert_eq!(rt; refusal(alloc, LIMITS, entries)?, wanted);
+    for (n, wanted) in [(4096, "session 0"), (4097, "illegal 1")] {
+        let mut entries = read_history(alloc, "backups 1")?;
+        entries.push(choice(alloc, distinct_hooks(alloc, n)?))?;
+        assert_eq!(rt; refusal(alloc, LIMITS, entries)?, read_answer(wanted)?);
     }
     Ok(())
 }
@@ -459,30 +285,42 @@ fn containers(alloc: Global, n: u32) -> Result<Vec<ContainerId>, Fail> {
     Ok(ids)
 }
 
+fn commit_of_uses(uses: Vec<ContainerId>) -> Entry {
+    let manifest = ManifestId { session: 0, seq: 0 };
+    let point = commit(manifest, [1, 1, 0, 0], Items::new(uses));
+    Entry { author: 0, point }
+}
+
 #[test]
 fn too_many_uses(rt: HostRuntime) -> Result<(), Fail> {
     let alloc = rt.alloc();
-    for (n, wanted) in [(4096, OPEN_0), (4097, Some(Illegal(2)))] {
-        let mut entries = entries_of(alloc, Backups(2))?;
-        let uses = containers(alloc, n)?;
-        add(alloc, &mut entries, 0, Commit(M00, LEAST, &uses))?;
-        assert_eq!(rt; refusal(alloc, LIMITS, entries)?, wanted);
+    for (n, wanted) in [(4096, "session 0"), (4097, "illegal 2")] {
+        let mut entries = read_history(alloc, "backups 2")?;
+        entries.push(commit_of_uses(containers(alloc, n)?))?;
+        assert_eq!(rt; refusal(alloc, LIMITS, entries)?, read_answer(wanted)?);
     }
     Ok(())
+}
+
+fn reclaim_of_containers(alloc: Global, n: u32) -> Result<Entry, Fail> {
+    let mut objects = Vec::new(alloc);
+    for id in containers(alloc, n)? {
+        objects.push(Container(id))?;
+    }
+    let objects = Items::new(objects);
+    Ok(Entry {
+        author: 1,
+        point: Point::Reclaim { objects },
+    })
 }
 
 #[test]
 fn sixteen_of_seventeen(rt: HostRuntime) -> Result<(), Fail> {
     let alloc = rt.alloc();
-    for (n, wanted) in [(15, Some(Illegal(2))), (16, None), (17, Some(Illegal(2)))] {
-        let mut objects = Vec::new(alloc);
-        for id in containers(alloc, n)? {
-            objects.push(Container(id))?;
-        }
-        let mut entries = entries_of(alloc, Backups(1))?;
-        add(alloc, &mut entries, 0, Abort(0, 17, 0))?;
-        add(alloc, &mut entries, 1, Reclaim(&objects))?;
-        assert_eq!(rt; refusal(alloc, LIMITS, entries)?, wanted);
+    for (n, wanted) in [(15, "illegal 2"), (16, "opens"), (17, "illegal 2")] {
+        let mut entries = read_history(alloc, "backups 1 | a0 abort s0 containers 17 texts 0")?;
+        entries.push(reclaim_of_containers(alloc, n)?)?;
+        assert_eq!(rt; refusal(alloc, LIMITS, entries)?, read_answer(wanted)?);
     }
     Ok(())
 }
@@ -508,7 +346,7 @@ fn limits_that_are_passed(rt: HostRuntime) -> Result<(), Fail> {
     let alloc = rt.alloc();
     for (entries, weight, illegal) in limits() {
         let limits = Limits { entries, weight };
-        let past = entries_of(alloc, Reading(9))?;
+        let past = read_history(alloc, "reading 9")?;
         let wanted = illegal.map(|n| Illegal(n));
         assert_eq!(rt; refusal(alloc, limits, past)?, wanted, "{entries} {weight}");
     }
@@ -516,53 +354,27 @@ fn limits_that_are_passed(rt: HostRuntime) -> Result<(), Fail> {
 }
 
 // What is left unfinished: of sessions the least, and of readings the least where no session is.
-fn left() -> [(Past, u32, Step<'static>, Option<OpenFault>); 6] {
-    [
-        (Backups(2), 1, Begin("y", Some(1)), OPEN_0),
-        (Champions(8), 2, Begin("z", Some(2)), OPEN_2),
-        (Champions(11), 3, Begin("u", Some(3)), OPEN_2),
-        (Reading(5), 2, Begin("y", Some(1)), OPEN_1),
-        (Reading(5), 2, Look("x", Some((1, 0))), READ_0),
-        (Reading(8), 2, Delete("x", None), None),
-    ]
+fn left() -> &'static str {
+    "the first of two sessions: backups 2 | a1 begin y s1 => session 0\n\
+     the last session: champions 8 | a2 begin z s2 => session 2\n\
+     a later session has ended: champions 11 | a3 begin u s3 => session 2\n\
+     a session before a reading: reading 5 | a2 begin y s1 => session 1\n\
+     the first of two readings: reading 5 | a2 look x r1 s0 => reading 0\n\
+     all has ended: reading 8 | a2 delete x none => opens"
 }
 
 #[test]
 fn what_is_left_unfinished(rt: HostRuntime) -> Result<(), Fail> {
-    let alloc = rt.alloc();
-    for (past, author, step, wanted) in left() {
-        let mut entries = entries_of(alloc, past)?;
-        add(alloc, &mut entries, author, step)?;
-        assert_eq!(rt; refusal(alloc, LIMITS, entries)?, wanted);
-    }
-    Ok(())
+    all_answered(&rt, rt.alloc(), left())
 }
 
 // The first of two sessions, and of two readings, has ended.
-fn ended() -> [(Past, [(u32, Step<'static>); 2], Option<OpenFault>); 2] {
-    [
-        (
-            Backups(3),
-            [(1, Begin("y", Some(1))), (0, Finish(0, 1))],
-            OPEN_1,
-        ),
-        (
-            Reading(5),
-            [(2, Look("x", Some((1, 0)))), (1, Done(0))],
-            Some(UnfinishedReading(1)),
-        ),
-    ]
+fn ended() -> &'static str {
+    "the second session: backups 3 | a1 begin y s1 | a0 finish s0 containers 1 => session 1\n\
+     the second reading: reading 5 | a2 look x r1 s0 | a1 done r0 => reading 1"
 }
 
 #[test]
 fn what_is_left_where_the_first_has_ended(rt: HostRuntime) -> Result<(), Fail> {
-    let alloc = rt.alloc();
-    for (past, rows, wanted) in ended() {
-        let mut entries = entries_of(alloc, past)?;
-        for (author, step) in rows {
-            add(alloc, &mut entries, author, step)?;
-        }
-        assert_eq!(rt; refusal(alloc, LIMITS, entries)?, wanted);
-    }
-    Ok(())
+    all_answered(&rt, rt.alloc(), ended())
 }

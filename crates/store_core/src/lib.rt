@@ -25,18 +25,18 @@ pub use state::State;
 pub use values::{Choice, Looked, Stored};
 
 #[cfg(test)]
+mod cases;
+#[cfg(test)]
 mod checked_call_tests;
+#[cfg(test)]
+mod entry_lines;
 #[cfg(test)]
 mod entry_rule_tests;
 #[cfg(test)]
-mod entry_tables;
-#[cfg(test)]
-mod history_tables;
+mod histories;
 #[cfg(test)]
 mod limit_tests;
 #[cfg(test)]
 mod played_history_tests;
 #[cfg(test)]
 mod worked_history_tests;
-#[cfg(test)]
-mod worked_tables;

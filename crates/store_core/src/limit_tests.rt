@@ -1,50 +1,55 @@
 // Limits, authors and profiles.
 use crate::OpenFault::{Illegal, UnfinishedSession};
+use crate::cases::*;
 use crate::checked_call_tests::call;
-use crate::entry_tables::Step::{
-    Abort, Begin, Choose, Commit, Delete, Done, Finish, Look, Reclaim, Stat,
-};
-use crate::entry_tables::*;
-use crate::history_tables::*;
+use crate::entry_lines::*;
 use crate::played_history_tests::{agrees, play, replays};
 use crate::{OpenFault, State};
-use Wanted::{Added, Full};
-use history::Limits;
-use ss_base::Object::Manifest;
+use history::{Entry, Items, Limits};
 use ss_base::{Name, Profile};
 use std::alloc::Global;
 use std::process;
 use std::test::Fail;
 
-// A fourth hook.
-const H3: Name = Name([3; 32]);
-
-// What a call is to answer: whether its entry is added, or would break the limits.
-#[derive(Clone, Copy, PartialEq, Eq)]
-enum Wanted {
-    Added,
-    Full,
+// The entries of the first so many lines that begin with this word.
+fn added(alloc: Global, lines: &str, n: usize) -> Result<Vec<Entry>, Fail> {
+    let mut entries = Vec::new(alloc);
+    for (i, line) in lines.lines().enumerate() {
+        if let Some(entry) = line.strip_prefix("added ") {
+            if i < n {
+                entries.push(read_entry(alloc, entry)?)?;
+            }
+        }
+    }
+    Ok(entries)
 }
 
-type Row = (Wanted, u32, Step<'static>);
+// Makes the call of a line, which says first whether its entry is added, or would break the limits.
+fn call_line(
+    rt: &impl process::Abort,
+    alloc: Global,
+    state: &mut State<8, 8>,
+    line: &str,
+) -> Result<(), Fail> {
+    let (wanted, entry) = line.split_once(' ').ok_or("what is wanted")?;
+    let entry = read_entry(alloc, entry)?;
+    let is_added = call(rt, alloc, state, &entry)?;
+    assert_eq!(rt; wanted, if is_added { "added" } else { "full" }, "{line}");
+    Ok(())
+}
 
-// Makes the calls of the rows. After one that is refused all is as before.
+// Makes the calls of the lines. After one that is refused all is as before.
 fn play_within(
     rt: &impl process::Abort,
     alloc: Global,
     limits: Limits,
-    rows: &[Row],
+    lines: &str,
 ) -> Result<(), Fail> {
-    let mut state = play::<8, 8>(rt, alloc, limits, &[])?;
-    let mut added = Vec::new(alloc);
-    for (i, (wanted, author, step)) in rows.iter().enumerate() {
-        let is_added = call(rt, alloc, &mut state, *author, *step)?;
-        assert_eq!(rt; is_added, *wanted == Added, "{i}");
-        if is_added {
-            added.push((*author, *step))?;
-        }
+    let mut state = play::<8, 8>(rt, alloc, limits, "backups 0")?;
+    for (i, line) in lines.lines().enumerate() {
+        call_line(rt, alloc, &mut state, line)?;
         agrees(rt, alloc, &state)?;
-        let copy = history(alloc, added.as_slice())?;
+        let copy = added(alloc, lines, i + 1)?;
         replays(rt, alloc, limits, &state, copy)?;
     }
     Ok(())
@@ -54,182 +59,175 @@ const fn within(entries: u32, weight: u32) -> Limits {
     Limits { entries, weight }
 }
 
-fn no_entries() -> [Row; 5] {
-    [
-        (Full, 0, Begin("x", Some(0))),
-        (Full, 0, Delete("x", None)),
-        (Full, 0, Look("x", None)),
-        (Full, 0, Reclaim(&[])),
-        (Full, 0, Stat([0, 0, 0, 0, 0, 0])),
-    ]
+fn no_entries() -> &'static str {
+    "full a0 begin x s0\n\
+     full a0 delete x none\n\
+     full a0 look x none\n\
+     full a0 reclaim -\n\
+     full a0 stat streams 0 bytes 0 fresh 0 containers 0 reclaimed 0 entries 0"
 }
 
 // A call is refused before its name is found taken or without a stream. The end still fits.
-fn two_entries() -> [Row; 15] {
-    [
-        (Added, 0, Begin("x", Some(0))),
-        (Full, 1, Begin("x", None)),
-        (Full, 1, Begin("y", Some(1))),
-        (Full, 0, Choose(0, &[], &[])),
-        (Full, 1, Delete("x", None)),
-        (Full, 1, Look("x", None)),
-        (Full, 1, Reclaim(&[])),
-        (Full, 1, Stat([0, 0, 0, 0, 0, 1])),
-        (Added, 0, Finish(0, 0)),
-        (Full, 1, Begin("x", None)),
-        (Full, 1, Delete("x", Some(0))),
-        (Full, 1, Delete("y", None)),
-        (Full, 1, Look("x", Some((0, 0)))),
-        (Full, 1, Look("y", None)),
-        (Full, 1, Stat([1, 0, 0, 0, 0, 2])),
-    ]
+fn two_entries() -> &'static str {
+    "added a0 begin x s0\n\
+     full a1 begin x taken\n\
+     full a1 begin y s1\n\
+     full a0 choose s0 hooks - champions -\n\
+     full a1 delete x none\n\
+     full a1 look x none\n\
+     full a1 reclaim -\n\
+     full a1 stat streams 0 bytes 0 fresh 0 containers 0 reclaimed 0 entries 1\n\
+     added a0 finish s0 containers 0\n\
+     full a1 begin x taken\n\
+     full a1 delete x s0\n\
+     full a1 delete y none\n\
+     full a1 look x r0 s0\n\
+     full a1 look y none\n\
+     full a1 stat streams 1 bytes 0 fresh 0 containers 0 reclaimed 0 entries 2"
 }
 
 // A begin and a look want room for their ends too.
-fn a_name_that_is_taken() -> [Row; 5] {
-    [
-        (Added, 0, Begin("x", Some(0))),
-        (Full, 1, Begin("y", Some(1))),
-        (Added, 1, Begin("x", None)),
-        (Added, 0, Abort(0, 0, 0)),
-        (Full, 1, Begin("x", Some(1))),
-    ]
+fn a_name_that_is_taken() -> &'static str {
+    "added a0 begin x s0\n\
+     full a1 begin y s1\n\
+     added a1 begin x taken\n\
+     added a0 abort s0 containers 0 texts 0\n\
+     full a1 begin x s1"
 }
 
-fn a_look_without_a_stream() -> [Row; 5] {
-    [
-        (Added, 0, Begin("x", Some(0))),
-        (Added, 0, Finish(0, 0)),
-        (Full, 1, Look("x", Some((0, 0)))),
-        (Added, 1, Look("y", None)),
-        (Full, 1, Look("y", None)),
-    ]
+fn a_look_without_a_stream() -> &'static str {
+    "added a0 begin x s0\n\
+     added a0 finish s0 containers 0\n\
+     full a1 look x r0 s0\n\
+     added a1 look y none\n\
+     full a1 look y none"
 }
 
-fn a_second_session() -> [Row; 6] {
-    [
-        (Added, 0, Begin("x", Some(0))),
-        (Added, 1, Begin("y", Some(1))),
-        (Full, 0, Choose(0, &[H], &[])),
-        (Full, 2, Stat([0, 0, 0, 0, 0, 2])),
-        (Added, 1, Abort(1, 0, 0)),
-        (Added, 0, Finish(0, 0)),
-    ]
+fn a_second_session() -> &'static str {
+    "added a0 begin x s0\n\
+     added a1 begin y s1\n\
+     full a0 choose s0 hooks h champions -\n\
+     full a2 stat streams 0 bytes 0 fresh 0 containers 0 reclaimed 0 entries 2\n\
+     added a1 abort s1 containers 0 texts 0\n\
+     added a0 finish s0 containers 0"
 }
 
-fn a_second_reading() -> [Row; 7] {
-    [
-        (Added, 0, Begin("x", Some(0))),
-        (Added, 0, Finish(0, 0)),
-        (Added, 1, Look("x", Some((0, 0)))),
-        (Full, 2, Look("x", Some((1, 0)))),
-        (Full, 2, Delete("x", Some(0))),
-        (Added, 1, Done(0)),
-        (Full, 2, Reclaim(&[])),
-    ]
+fn a_second_reading() -> &'static str {
+    "added a0 begin x s0\n\
+     added a0 finish s0 containers 0\n\
+     added a1 look x r0 s0\n\
+     full a2 look x r1 s0\n\
+     full a2 delete x s0\n\
+     added a1 done r0\n\
+     full a2 reclaim -"
 }
 
-fn a_commit() -> [Row; 4] {
-    [
-        (Added, 0, Begin("x", Some(0))),
-        (Added, 0, Choose(0, &[H], &[])),
-        (Full, 0, Commit(M00, LEAST, &[C00])),
-        (Added, 0, Abort(0, 0, 0)),
-    ]
+fn a_commit() -> &'static str {
+    "added a0 begin x s0\n\
+     added a0 choose s0 hooks h champions -\n\
+     full a0 commit m0.0 chunks 1 bytes 1 fresh 0 0 uses c0.0\n\
+     added a0 abort s0 containers 0 texts 0"
 }
 
 #[test]
 fn too_many_entries(rt: HostRuntime) -> Result<(), Fail> {
     let alloc = rt.alloc();
-    play_within(&rt, alloc, within(0, 0), &no_entries())?;
-    play_within(&rt, alloc, within(2, 100), &two_entries())?;
-    play_within(&rt, alloc, within(3, 100), &a_commit())
+    play_within(&rt, alloc, within(0, 0), no_entries())?;
+    play_within(&rt, alloc, within(2, 100), two_entries())?;
+    play_within(&rt, alloc, within(3, 100), a_commit())
 }
 
 #[test]
 fn room_for_an_entry_without_its_end(rt: HostRuntime) -> Result<(), Fail> {
     let alloc = rt.alloc();
-    play_within(&rt, alloc, within(3, 100), &a_name_that_is_taken())?;
-    play_within(&rt, alloc, within(3, 100), &a_look_without_a_stream())?;
-    play_within(&rt, alloc, within(4, 100), &a_second_session())?;
-    play_within(&rt, alloc, within(4, 100), &a_second_reading())
+    play_within(&rt, alloc, within(3, 100), a_name_that_is_taken())?;
+    play_within(&rt, alloc, within(3, 100), a_look_without_a_stream())?;
+    play_within(&rt, alloc, within(4, 100), a_second_session())?;
+    play_within(&rt, alloc, within(4, 100), a_second_reading())
 }
 
 // A choice weighs as many as its hooks, a commit as many as its containers, and no other entry weighs anything.
-fn weights() -> [Row; 12] {
-    [
-        (Added, 0, Begin("x", Some(0))),
-        (Full, 0, Choose(0, &[H, G, F, H3], &[])),
-        (Added, 0, Choose(0, &[H, G], &[])),
-        (Full, 0, Commit(M00, LEAST, &[C00, C01, C0_LAST])),
-        (Added, 0, Commit(M00, LEAST, &[C00])),
-        (Full, 0, Choose(0, &[H], &[M00])),
-        (Added, 0, Choose(0, &[], &[])),
-        (Full, 0, Commit(M01, LEAST, &[C00])),
-        (Added, 0, Commit(M01, LEAST, &[])),
-        (Added, 0, Finish(0, 1)),
-        (Added, 1, Delete("x", Some(0))),
-        (Added, 1, Reclaim(&[C, M, Manifest(M01)])),
-    ]
+fn weights() -> &'static str {
+    "added a0 begin x s0\n\
+     full a0 choose s0 hooks h,g,f,e champions -\n\
+     added a0 choose s0 hooks h,g champions -\n\
+     full a0 commit m0.0 chunks 1 bytes 1 fresh 0 0 uses c0.0,c0.1,c0.4294967294\n\
+     added a0 commit m0.0 chunks 1 bytes 1 fresh 0 0 uses c0.0\n\
+     full a0 choose s0 hooks h champions m0.0\n\
+     added a0 choose s0 hooks - champions -\n\
+     full a0 commit m0.1 chunks 1 bytes 1 fresh 0 0 uses c0.0\n\
+     added a0 commit m0.1 chunks 1 bytes 1 fresh 0 0 uses -\n\
+     added a0 finish s0 containers 1\n\
+     added a1 delete x s0\n\
+     added a1 reclaim c0.0,m0.0,m0.1"
 }
 
 #[test]
 fn too_much_weight(rt: HostRuntime) -> Result<(), Fail> {
-    play_within(&rt, rt.alloc(), within(100, 3), &weights())
+    play_within(&rt, rt.alloc(), within(100, 3), weights())
 }
 
-// Limits of entries and of weight, how many calls are within them, and what ends what is unfinished then. An
-// unfinished session or reading counts as an entry more; the choice weighs 2, the commit 1.
-fn first_refused() -> [(u32, u32, usize, Option<(u32, Step<'static>)>); 8] {
+// Limits of entries and of weight, what is within them, and what ends what is unfinished then. An unfinished session or
+// reading counts as an entry more; the choice weighs 2, the commit 1.
+fn first_refused() -> [(u32, u32, &'static str, &'static str); 8] {
     [
-        (8, 3, 8, None),
-        (7, 3, 6, Some((1, Done(0)))),
-        (6, 3, 5, Some((1, Done(0)))),
-        (5, 3, 4, None),
-        (3, 3, 2, Some((0, Abort(0, 0, 0)))),
-        (1, 3, 0, None),
-        (9, 2, 2, Some((0, Abort(0, 0, 1)))),
-        (9, 1, 1, Some((0, Abort(0, 0, 0)))),
+        (8, 3, "reading 8", ""),
+        (7, 3, "reading 6", "a1 done r0"),
+        (6, 3, "reading 5", "a1 done r0"),
+        (5, 3, "reading 4", ""),
+        (3, 3, "reading 2", "a0 abort s0 containers 0 texts 0"),
+        (1, 3, "reading 0", ""),
+        (9, 2, "reading 2", "a0 abort s0 containers 0 texts 1"),
+        (9, 1, "reading 1", "a0 abort s0 containers 0 texts 0"),
     ]
 }
 
 #[test]
 fn the_first_call_that_is_refused(rt: HostRuntime) -> Result<(), Fail> {
     let alloc = rt.alloc();
-    let rows = deleted_while_read();
-    for (entries, weight, n, end) in first_refused() {
+    let whole = read_history(alloc, "reading 9")?;
+    for (entries, weight, past, end) in first_refused() {
         let limits = within(entries, weight);
-        let (past, later) = rows.split_at_checked(n).ok_or("a row")?;
-        let [(author, step), ..] = later else {
-            return Err("a row of the history")?;
-        };
         let mut state = play::<8, 8>(&rt, alloc, limits, past)?;
-        assert!(rt; !call(&rt, alloc, &mut state, *author, *step)?);
-        replays(&rt, alloc, limits, &state, history(alloc, past)?)?;
-        if let Some((author, step)) = end {
-            assert!(rt; call(&rt, alloc, &mut state, author, step)?);
+        let next = whole.get(state.entries().len()).ok_or("an entry")?;
+        assert!(rt; !call(&rt, alloc, &mut state, next)?);
+        replays(&rt, alloc, limits, &state, read_history(alloc, past)?)?;
+        for line in end.lines() {
+            assert!(rt; call(&rt, alloc, &mut state, &read_entry(alloc, line)?)?);
         }
     }
     Ok(())
 }
 
-// Authors of entries, and the author that comes next.
-fn authors() -> [(u32, [u64; 6], Option<u32>); 4] {
+// Entries of some authors, and the author that comes next.
+fn authors() -> [(&'static str, Option<u32>); 4] {
     [
-        (5, [0, 0, 0, 0, 0, 0], Some(6)),
-        (2, [0, 0, 0, 0, 0, 1], Some(6)),
-        (4_294_967_294, [0, 0, 0, 0, 0, 2], Some(4_294_967_295)),
-        (4_294_967_295, [0, 0, 0, 0, 0, 3], None),
+        (
+            "a5 stat streams 0 bytes 0 fresh 0 containers 0 reclaimed 0 entries 0",
+            Some(6),
+        ),
+        (
+            "a2 stat streams 0 bytes 0 fresh 0 containers 0 reclaimed 0 entries 1",
+            Some(6),
+        ),
+        (
+            "a4294967294 stat streams 0 bytes 0 fresh 0 containers 0 reclaimed 0 entries 2",
+            Some(4294967295),
+        ),
+        (
+            "a4294967295 stat streams 0 bytes 0 fresh 0 containers 0 reclaimed 0 entries 3",
+            None,
+        ),
     ]
 }
 
 #[test]
 fn the_author_that_comes_next(rt: HostRuntime) -> Result<(), Fail> {
     let alloc = rt.alloc();
-    let mut state = play::<8, 8>(&rt, alloc, LIMITS, &[])?;
+    let mut state = play::<8, 8>(&rt, alloc, LIMITS, "backups 0")?;
     assert_eq!(rt; state.next_author(), Some(0));
-    for (author, numbers, next) in authors() {
-        assert!(rt; call(&rt, alloc, &mut state, author, Stat(numbers))?);
+    for (line, next) in authors() {
+        assert!(rt; call(&rt, alloc, &mut state, &read_entry(alloc, line)?)?);
         assert_eq!(rt; state.next_author(), next);
     }
     Ok(())
@@ -248,9 +246,10 @@ fn profiles() -> [(Profile, u32, u8, u8); 3] {
 fn hook_refusal(alloc: Global, profile: Profile, byte: u8) -> Result<Option<OpenFault>, Fail> {
     let mut bytes = [255; 32];
     bytes[0] = byte;
-    let hooks = [Name(bytes)];
-    let rows = [(0, Begin("x", Some(0))), (0, Choose(0, &hooks, &[]))];
-    match State::<8, 8>::replay(alloc, profile, LIMITS, history(alloc, &rows)?) {
+    let mut entries = read_history(alloc, "backups 1")?;
+    let hooks = Vec::from_slice(alloc, &[Name(bytes)])?;
+    entries.push(choice(alloc, Items::new(hooks)))?;
+    match State::<8, 8>::replay(alloc, profile, LIMITS, entries) {
         Ok(_) => Ok(None),
         Err(fault) => Ok(Some(fault)),
     }

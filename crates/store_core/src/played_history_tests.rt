@@ -3,9 +3,9 @@ ghost use Rattle.std.specs.Prelude.{◌≡◌, ◌≤◌, ◌<◌, ◌^◌, leng
 ghost use Rattle.journal_entry.specs.declared.entry.Entry.{Entry};
 ghost use Rattle.history.specs.TotalsOf.{objects_named};
 
+use crate::cases::*;
 use crate::checked_call_tests::call;
-use crate::entry_tables::*;
-use crate::history_tables::*;
+use crate::entry_lines::*;
 use crate::{OpenFault, State};
 use history::{Entry, Limits, Point, Totals, erasable, standing, totals};
 use ss_base::{Name, Object, Profile};
@@ -181,13 +181,13 @@ pub(crate) fn replays<const L: usize, const M: usize>(
     Ok(())
 }
 
-// The state that the calls of these rows make within the limits. After each it is compared with what scans give, and
+// The state that the calls of this history make within the limits. After each it is compared with what scans give, and
 // with the state of a copy of its entries.
 pub(crate) fn play<const L: usize, const M: usize>(
     rt: &impl process::Abort,
     alloc: Global,
     limits: Limits,
-    rows: &[(u32, Step)],
+    text: &str,
 ) -> Result<State<L, M>, Fail>
     requires standings { (1 ≤ L) × (L ≤ 255) }
     requires champions { (1 ≤ M) × (M ≤ 255) }
@@ -195,39 +195,32 @@ pub(crate) fn play<const L: usize, const M: usize>(
     let Ok(mut state) = replayed::<L, M>(limits, alloc, Vec::new(alloc))? else {
         return Err("no state of no entries")?;
     };
-    for (i, (author, step)) in rows.iter().enumerate() {
-        assert!(rt; call(rt, alloc, &mut state, *author, *step)?, "{i}");
+    let entries = read_history(alloc, text)?;
+    for (i, entry) in entries.iter().enumerate() {
+        assert!(rt; call(rt, alloc, &mut state, entry)?, "{i} of {text}");
         agrees(rt, alloc, &state)?;
-        let copy = history(alloc, &rows[..i + 1])?;
+        let mut copy = read_history(alloc, text)?;
+        copy.truncate(i + 1);
         replays(rt, alloc, limits, &state, copy)?;
     }
     Ok(state)
 }
 
-#[test]
-fn two_backups_by_calls(rt: HostRuntime) -> Result<(), Fail> {
-    let state = play::<8, 8>(&rt, rt.alloc(), LIMITS, &two_backups())?;
-    assert_eq!(rt; state.next_author(), Some(9));
-    Ok(())
+// Histories whose runs each have an author of their own, and the author that comes next.
+fn runs() -> [(&'static str, u32); 4] {
+    [
+        ("backups 15", 9),
+        ("segments 8", 2),
+        ("champions 12", 3),
+        ("reading 9", 4),
+    ]
 }
 
 #[test]
-fn three_segments_by_calls(rt: HostRuntime) -> Result<(), Fail> {
-    let state = play::<8, 8>(&rt, rt.alloc(), LIMITS, &three_segments())?;
-    assert_eq!(rt; state.next_author(), Some(2));
-    Ok(())
-}
-
-#[test]
-fn two_champions_by_calls(rt: HostRuntime) -> Result<(), Fail> {
-    let state = play::<8, 8>(&rt, rt.alloc(), LIMITS, &two_champions())?;
-    assert_eq!(rt; state.next_author(), Some(3));
-    Ok(())
-}
-
-#[test]
-fn deleted_while_read_by_calls(rt: HostRuntime) -> Result<(), Fail> {
-    let state = play::<8, 8>(&rt, rt.alloc(), LIMITS, &deleted_while_read())?;
-    assert_eq!(rt; state.next_author(), Some(4));
+fn runs_by_calls(rt: HostRuntime) -> Result<(), Fail> {
+    for (text, next) in runs() {
+        let state = play::<8, 8>(&rt, rt.alloc(), LIMITS, text)?;
+        assert_eq!(rt; state.next_author(), Some(next));
+    }
     Ok(())
 }

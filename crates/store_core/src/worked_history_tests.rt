@@ -1,20 +1,24 @@
 // Histories in which champions, standing lists, pins and totals were worked out by hand, by calls and by replay.
 use crate::OpenFault;
-use crate::OpenFault::{Illegal, UnfinishedSession};
-use crate::entry_tables::Step::Choose;
-use crate::entry_tables::*;
-use crate::history_tables::Past::Backups;
-use crate::history_tables::*;
+use crate::cases::*;
+use crate::entry_lines::*;
 use crate::played_history_tests::{play, replayed};
-use crate::worked_tables::*;
-use ss_base::Object::{Container, Manifest};
-use ss_base::{ContainerId, ManifestId, Name, Object, Standing};
+use ss_base::{ManifestId, Standing};
 use std::alloc::Global;
+use std::process;
 use std::test::Fail;
 
-// Why the rows are no state's where two manifests stand at a hook and two are chosen.
-fn refusal_of_two(alloc: Global, rows: &[(u32, Step)]) -> Result<Option<OpenFault>, Fail> {
-    match replayed::<2, 2>(LIMITS, alloc, history(alloc, rows)?)? {
+// Makes the calls of the history of each line, as none is left: tie 9.
+fn play_all(rt: &impl process::Abort, alloc: Global, histories: &str) -> Result<(), Fail> {
+    for text in histories.lines() {
+        let _state = play::<8, 8>(rt, alloc, LIMITS, text)?;
+    }
+    Ok(())
+}
+
+// Why a history is no state's where two manifests stand at a hook and two are chosen.
+fn refusal_of_two(alloc: Global, text: &str) -> Result<Option<OpenFault>, Fail> {
+    match replayed::<2, 2>(LIMITS, alloc, read_history(alloc, text)?)? {
         Ok(_) => Ok(None),
         Err(fault) => Ok(Some(fault)),
     }
@@ -23,123 +27,85 @@ fn refusal_of_two(alloc: Global, rows: &[(u32, Step)]) -> Result<Option<OpenFaul
 #[test]
 fn champions_on_a_tie(rt: HostRuntime) -> Result<(), Fail> {
     let alloc = rt.alloc();
-    let _state = play::<8, 8>(&rt, alloc, LIMITS, &tie(&[M10]))?;
-    let entries = history(alloc, &tie(&[M00]))?;
-    assert_eq!(rt; refusal(alloc, LIMITS, entries)?, Some(Illegal(9)));
-    Ok(())
+    play_all(&rt, alloc, "tie 9 | a2 choose s2 hooks h champions m1.0")?;
+    all_answered(
+        &rt,
+        alloc,
+        "the older: tie 9 | a2 choose s2 hooks h champions m0.0 => illegal 9",
+    )
+}
+
+// Choices that are refused where two are chosen.
+fn choices_of_two() -> [&'static str; 2] {
+    [
+        "hooks 13 | a3 choose s3 hooks h,g,f champions m1.0,m2.0",
+        "hooks 13 | a3 choose s3 hooks h,g,f champions m2.0,m1.0,m0.0",
+    ]
 }
 
 #[test]
 fn two_champions_of_three_hooks(rt: HostRuntime) -> Result<(), Fail> {
     let alloc = rt.alloc();
-    let _state = play::<2, 2>(&rt, alloc, LIMITS, &three_hooks(&[M20, M10]))?;
-    let other = refusal_of_two(alloc, &three_hooks(&[M10, M20]))?;
-    assert_eq!(rt; other, Some(Illegal(13)));
-    let three = refusal_of_two(alloc, &three_hooks(&[M20, M10, M00]))?;
-    assert_eq!(rt; three, Some(Illegal(13)));
-    let _state = play::<8, 8>(&rt, alloc, LIMITS, &three_hooks(&[M20, M10, M00]))?;
-    Ok(())
+    let two = "hooks 13 | a3 choose s3 hooks h,g,f champions m2.0,m1.0";
+    let _state = play::<2, 2>(&rt, alloc, LIMITS, two)?;
+    for text in choices_of_two() {
+        assert_eq!(rt; refusal_of_two(alloc, text)?, read_answer("illegal 13")?);
+    }
+    let three = "hooks 13 | a3 choose s3 hooks h,g,f champions m2.0,m1.0,m0.0";
+    play_all(&rt, alloc, three)
 }
 
-fn promotions() -> [(&'static [Name], &'static [ManifestId], [Standing; 2]); 2] {
+const fn standing_of(session: u32, stamp: u32) -> Standing {
+    Standing {
+        id: ManifestId { session, seq: 0 },
+        stamp,
+    }
+}
+
+// Histories, and what stands at the first hook at their end.
+fn promotions() -> [(&'static str, [Standing; 2]); 2] {
     [
-        (
-            &[H],
-            &[M10],
-            [
-                Standing { id: M20, stamp: 10 },
-                Standing { id: M10, stamp: 6 },
-            ],
-        ),
-        (
-            &[H, G],
-            &[M00],
-            [
-                Standing { id: M20, stamp: 10 },
-                Standing { id: M00, stamp: 2 },
-            ],
-        ),
+        ("promotion 12", [standing_of(2, 10), standing_of(1, 6)]),
+        ("two_hooks 12", [standing_of(2, 10), standing_of(0, 2)]),
     ]
 }
 
 #[test]
 fn promotion_in_a_standing_list(rt: HostRuntime) -> Result<(), Fail> {
-    for (hooks, champions, stood) in promotions() {
-        let rows = promotion(hooks, champions);
-        let state = play::<2, 2>(&rt, rt.alloc(), LIMITS, &rows)?;
+    for (text, stood) in promotions() {
+        let state = play::<2, 2>(&rt, rt.alloc(), LIMITS, text)?;
         assert_eq!(rt; state.index().of(&H), stood.as_slice());
     }
     Ok(())
 }
 
-fn pinned() -> [(&'static [ContainerId], &'static [Object]); 2] {
-    [
-        (&[C00], &[Manifest(M00)]),
-        (&[C10], &[Container(C00), Manifest(M00)]),
-    ]
+// The commit against the champion uses its container or not, or the session that chose it is given up, with its
+// manifest written or not.
+fn ends_with_a_pin() -> &'static str {
+    "pinned 8 | a1 commit m1.0 chunks 1 bytes 1 fresh 0 0 uses c0.0 | a3 reclaim m0.0\n\
+     pinned 8 | a1 commit m1.0 chunks 1 bytes 1 fresh 0 0 uses c1.0 | a3 reclaim c0.0,m0.0\n\
+     pinned 8 | a1 abort s1 containers 0 texts 0 | a3 reclaim c0.0,m0.0\n\
+     pinned 8 | a1 abort s1 containers 0 texts 1 | a3 reclaim c0.0,m0.0,m1.0"
 }
 
 #[test]
 fn a_pinned_champion_is_not_reclaimed(rt: HostRuntime) -> Result<(), Fail> {
-    let alloc = rt.alloc();
-    for (used, erased) in pinned() {
-        let rows = deleted_champion(used, erased);
-        let _state = play::<8, 8>(&rt, alloc, LIMITS, &rows)?;
-    }
-    Ok(())
-}
-
-fn given_up() -> [(u32, &'static [Object]); 2] {
-    [
-        (0, &[Container(C00), Manifest(M00)]),
-        (1, &[Container(C00), Manifest(M00), Manifest(M10)]),
-    ]
+    play_all(&rt, rt.alloc(), ends_with_a_pin())
 }
 
 #[test]
-fn a_pinned_champion_of_a_session_that_is_given_up(rt: HostRuntime) -> Result<(), Fail> {
-    let alloc = rt.alloc();
-    for (texts, erased) in given_up() {
-        let rows = deleted_champion_given_up(texts, erased);
-        let _state = play::<8, 8>(&rt, alloc, LIMITS, &rows)?;
-    }
-    Ok(())
+fn other_histories(rt: HostRuntime) -> Result<(), Fail> {
+    let histories = "fault 7\naborted 9\nshared 12\nhookless 8\nempty 4\nbetween 7";
+    play_all(&rt, rt.alloc(), histories)
 }
 
-#[test]
-fn sessions_that_are_given_up(rt: HostRuntime) -> Result<(), Fail> {
-    let alloc = rt.alloc();
-    let _state = play::<8, 8>(&rt, alloc, LIMITS, &input_fault_after_two_segments())?;
-    let _state = play::<8, 8>(&rt, alloc, LIMITS, &champion_of_an_aborted_session())?;
-    Ok(())
-}
-
-#[test]
-fn hooks_that_are_shared_and_none(rt: HostRuntime) -> Result<(), Fail> {
-    let alloc = rt.alloc();
-    let _state = play::<8, 8>(&rt, alloc, LIMITS, &shared_chunk())?;
-    let _state = play::<8, 8>(&rt, alloc, LIMITS, &no_hooks())?;
-    Ok(())
-}
-
-#[test]
-fn an_empty_stream_and_totals_between(rt: HostRuntime) -> Result<(), Fail> {
-    let alloc = rt.alloc();
-    let _state = play::<8, 8>(&rt, alloc, LIMITS, &empty_stream())?;
-    let _state = play::<8, 8>(&rt, alloc, LIMITS, &totals_between())?;
-    Ok(())
+// A second backup that chooses against none, and a session that is left.
+fn refused_journals() -> &'static str {
+    "no champion: backups 5 | a1 choose s1 hooks h,g champions - => illegal 5\n\
+     left: backups 3 => session 0"
 }
 
 #[test]
 fn journals_that_are_refused(rt: HostRuntime) -> Result<(), Fail> {
-    let alloc = rt.alloc();
-    let mut entries = entries_of(alloc, Backups(5))?;
-    add(alloc, &mut entries, 1, Choose(1, &[H, G], &[]))?;
-    assert_eq!(rt; refusal(alloc, LIMITS, entries)?, Some(Illegal(5)));
-    let entries = entries_of(alloc, Backups(3))?;
-    assert_eq!(rt;
-        refusal(alloc, LIMITS, entries)?,
-        Some(UnfinishedSession(0))
-    );
-    Ok(())
+    all_answered(&rt, rt.alloc(), refused_journals())
 }

@@ -1,8 +1,0 @@
-use Rattle.std.proofs.Common.{◌≡◌, ◌≤◌, take, reverse}
-use Rattle.std.specs.List.{count_by}
-use Rattle.journal_entry.specs.declared.entry.Entry.{Entry}
-use Rattle.history.specs.Legal.{looks_unfinished}
-use Rattle.history.proofs.legality.unfinished_readings.Given as goal
-
-abbrev pub invariant-loop-entry : goal.invariant-loop-entry
-invariant-loop-entry l = (l.count ≤ l.entry-index) × (l.count ≡ count_by (λ (entry : Entry). looks_unfinished (reverse l.entries) entry.point) (take l.entry-index l.entries))
