@@ -1,0 +1,13 @@
+pub mod Lists
+pub mod Pigeonhole
+pub mod Knowing
+pub mod Drawing
+pub mod Looking
+pub mod Calls
+pub mod Starting
+pub mod Adding
+pub mod Serving
+pub mod Telling
+pub mod Giving
+pub mod Merging
+pub mod Openers
