@@ -1,5 +1,5 @@
 -- A collision among what a history hashed stays one as it goes on.
-use Rattle.std.proofs.Common.{◌≡◌, ◌⊎◌, ℕ, ◌+◌, ◌<◌, ◌≤◌, Bool, true, false, List, [], ◌∷◌, refl, sym, ap, ◌∙◌, subst, inl, inr, arith}
+use Rattle.std.proofs.Common.{◌≡◌, ℕ, ◌<◌, Bool, true, List, ◌∷◌, sym, ap, ◌∙◌, inl, inr, arith}
 use Rattle.std.specs.List.{count_by}
 use Rattle.std.proofs.lemmas.Bool.{cases_Bool}
 use Rattle.ss_base.specs.declared.ids.ManifestId.{ManifestId}
@@ -15,8 +15,8 @@ use Rattle.history_laws.proofs.Allowed.{IsStep}
 use Rattle.history_laws.proofs.SessionLaws.{has_older}
 use Rattle.history_laws.proofs.OnceLaws.{never_twice}
 use Rattle.stored_streams.specs.Streams.{Streams, manifest_pieces}
-use Rattle.stored_streams.specs.Plans.{planned_places, plans_of, text_of}
-use Rattle.stored_streams.specs.Collision.{IsChosenChunk, IsCommittedText, IsHashed, Collide}
+use Rattle.stored_streams.specs.Plans.{plans_of, text_of}
+use Rattle.stored_streams.specs.Collision.{IsHashed, Collide}
 use Rattle.stored_streams.proofs.PlanLaws.{places_stay}
 
 count_more : (does : Entry → Bool) (entry : Entry) (past : List Entry) (k : ℕ) → k < count_by does past → k < count_by does (entry ∷ past)

@@ -1,5 +1,5 @@
 -- What a committed manifest's Commit says of it, however the history goes on.
-use Rattle.std.proofs.Common.{◌≡◌, ◌⊎◌, ℕ, zero, suc, ◌+◌, ◌<◌, ◌≤◌, ◌^◌, Bool, true, false, List, [], ◌∷◌, length, Option, Some, None, get_or, refl, sym, ap, ◌∙◌, subst, inl, inr, arith}
+use Rattle.std.proofs.Common.{◌≡◌, ℕ, zero, suc, ◌≤◌, true, false, List, [], ◌∷◌, length, Some, refl, sym, ap, ◌∙◌, subst, inl, inr, arith}
 use mathlib.Core.List.{map}
 use Rattle.std.specs.List.{All, AllByRecursion, Contains}
 use Rattle.std.proofs.lemmas.Bool.{false≢true, cases_Bool, and_parts, leb-true}
@@ -15,7 +15,6 @@ use Rattle.ss_base.specs.Profile.{AreSound}
 use Rattle.ss_base.proofs.MemberLaws.{In, in_Contains, All-from_in}
 use Rattle.ss_base.proofs.IdLaws.{same_manifest-self, same_manifest-true}
 use Rattle.chunk_name.specs.Pieces.{piece, name_of_bytes}
-use Rattle.manifest_codec.specs.Manifest.{AreListed}
 use Rattle.manifest_codec.specs.Text.{manifest_text, IsPlace, AreManifest}
 use Rattle.manifest_codec.specs.Containers.{AreContainers}
 use Rattle.journal_entry.specs.declared.entry.Entry.{Entry}
@@ -23,18 +22,18 @@ use Rattle.journal_entry.specs.declared.entry.Point.{Point}
 use Rattle.journal_entry.specs.declared.entry.Point.TheVariants.{Commit}
 use Rattle.journal_entry.specs.Bounds.{FitsContainer, IsEntry, are_counts}
 use Rattle.history.specs.declared.rules.Rules.{Rules}
-use Rattle.history.specs.Sessions.{has, newest, pending_champions}
+use Rattle.history.specs.Sessions.{has, newest}
 use Rattle.history.specs.Need.{commits_manifest}
 use Rattle.history.specs.Legal.{is_legal}
 use Rattle.history_laws.proofs.Allowed.{IsStep, step, commit_says}
 use Rattle.history_laws.proofs.SessionLaws.{has_cases, has_none}
 use Rattle.store_core.specs.View.{KeptView, kept, kept_by, made}
 use Rattle.stored_streams.specs.Streams.{Streams, manifest_chunks, manifest_pieces}
-use Rattle.stored_streams.specs.Plans.{Planned, planned_places, located_of, plan_for, next_plan, plans_after, plans_of, text_of}
-use Rattle.stored_streams.specs.OfStreams.{ContentOf, StoredOf, EachEntry, HasContents, HasStored}
+use Rattle.stored_streams.specs.Plans.{planned_places, plan_for, next_plan, plans_after, plans_of, text_of}
+use Rattle.stored_streams.specs.OfStreams.{ContentOf, StoredOf, EachEntry}
 use Rattle.stored_streams.proofs.SegmentLaws.{pieces_sized, pieces_named}
-use Rattle.stored_streams.proofs.PlaceLaws.{Each, IsWithin}
-use Rattle.stored_streams.proofs.PlanLaws.{IsSound, plans_sound, places_of_within, places_newest, places_stay}
+use Rattle.stored_streams.proofs.PlaceLaws.{Each}
+use Rattle.stored_streams.proofs.PlanLaws.{plans_sound, places_of_within, places_newest, places_stay}
 
 -- what is known of a committed manifest
 pub record IsKeptOf (n : Numbers) (streams : Streams) (past : List Entry) (id : ManifestId) : Type 0 where

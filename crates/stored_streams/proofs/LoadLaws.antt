@@ -1,10 +1,9 @@
 -- What was loaded for a segment is what its champions committed, or there is a collision.
-use Rattle.std.proofs.Common.{◌≡◌, ◌≢◌, ◌⊎◌, ℕ, ◌+◌, ◌<◌, ◌≤◌, Bool, true, false, List, [], ◌∷◌, ◌++◌, length, Some, refl, sym, ap, ◌∙◌, subst, inl, inr, arith}
+use Rattle.std.proofs.Common.{◌≡◌, ◌≢◌, ◌⊎◌, ℕ, ◌≤◌, true, List, [], ◌∷◌, ◌++◌, refl, sym, ap, ◌∙◌, subst, inl, inr, arith}
 use mathlib.Core.List.{map}
-use Rattle.std.specs.List.{All, list_any}
-use Rattle.std.proofs.lemmas.Bool.{false≢true, cases_Bool, or_right}
+use Rattle.std.specs.List.{All}
+use Rattle.std.proofs.lemmas.Bool.{false≢true, cases_Bool}
 use Rattle.std.proofs.lemmas.List.Elements.{All-tail}
-use Rattle.ss_base.specs.declared.ids.ContainerId.{ContainerId}
 use Rattle.ss_base.specs.declared.ids.ManifestId.{ManifestId}
 use Rattle.ss_base.specs.declared.name.Name.{Name}
 use Rattle.ss_base.specs.declared.profile.Numbers.{Numbers}
@@ -13,9 +12,8 @@ use Rattle.ss_base.specs.Ids.{same_manifest, same_name, has_manifest}
 use Rattle.ss_base.proofs.MemberLaws.{In, in_any}
 use Rattle.ss_base.proofs.IdLaws.{same_manifest-self, same_name-self, same_name-true}
 use Rattle.chunk_name.specs.Pieces.{name_of_bytes}
-use Rattle.manifest_codec.specs.Text.{AreManifest, manifest_text}
+use Rattle.manifest_codec.specs.Text.{manifest_text}
 use Rattle.manifest_codec.proofs.TextLaws as text
-use Rattle.container_file.specs.declared.container_end.ContainerEnd.{ContainerEnd}
 use Rattle.container_file.proofs.LayoutLaws.{end_bounds}
 use Rattle.segment_plan.specs.Plan.{Located, pieces_of, fresh_of, end_against}
 use Rattle.journal_entry.specs.declared.entry.Entry.{Entry}
@@ -23,18 +21,17 @@ use Rattle.journal_entry.specs.declared.entry.Point.{Point}
 use Rattle.journal_entry.specs.declared.entry.Point.TheVariants.{Commit, Finish, Abort}
 use Rattle.journal_entry.specs.Bounds.{IsEntry}
 use Rattle.history.specs.declared.rules.Rules.{Rules}
-use Rattle.history.specs.Sessions.{has, is_pending, pending_champions}
+use Rattle.history.specs.Sessions.{has, pending_champions}
 use Rattle.history.specs.Need.{commits_manifest}
 use Rattle.history.specs.Legal.{is_legal}
-use Rattle.history_laws.proofs.Allowed.{IsStep, step}
+use Rattle.history_laws.proofs.Allowed.{step}
 use Rattle.history_laws.proofs.LiveLaws.{pending_committed}
-use Rattle.store_core.specs.View.{made}
 use Rattle.stored_streams.specs.Streams.{Streams, manifest_chunks, manifest_pieces}
 use Rattle.stored_streams.specs.Plans.{Planned, planned_places, located_of, plan_for, next_plan, plans_after, plans_of, end_of, text_of}
-use Rattle.stored_streams.specs.OfStreams.{next_of, ContentOf, StoredOf, AbortsWith, EndOf, EachEntry, HasContents, HasStored, IsOfStreams, StoresSegment}
+use Rattle.stored_streams.specs.OfStreams.{next_of, ContentOf, StoredOf, EndOf, EachEntry, HasContents, HasStored, IsOfStreams, StoresSegment}
 use Rattle.stored_streams.specs.Collision.{Collide}
-use Rattle.stored_streams.specs.Loads.{Loads, loaded_text, loaded_after, loaded_plans, IsLoadOf, AreLoadsOf, AbortsLoaded, LoadedOf, StoresLoaded}
-use Rattle.stored_streams.proofs.CommittedLaws.{IsKeptOf, committed_kept, committed_manifest}
+use Rattle.stored_streams.specs.Loads.{Loads, loaded_text, loaded_after, loaded_plans, IsLoadOf, AreLoadsOf, LoadedOf, StoresLoaded}
+use Rattle.stored_streams.proofs.CommittedLaws.{committed_kept, committed_manifest}
 use Rattle.stored_streams.proofs.CollisionLaws.{collide_more}
 
 -- bytes are the same or differ

@@ -1,16 +1,13 @@
 -- Laws of the plans of a history.
-use Rattle.std.proofs.Common.{◌≡◌, ◌⊎◌, ℕ, ◌+◌, ◌<◌, ◌≤◌, ◌^◌, Bool, true, false, List, [], ◌∷◌, length, Option, Some, None, refl, sym, ap, ◌∙◌, subst, inl, inr, arith}
+use Rattle.std.proofs.Common.{◌≡◌, ◌≤◌, true, false, List, [], ◌∷◌, length, Option, Some, None, refl, ◌∙◌, subst, inl, inr, arith}
 use mathlib.Core.List.{map}
-use Rattle.std.specs.List.{find}
-use Rattle.std.proofs.lemmas.Bool.{cases_Bool}
 use Rattle.std.proofs.lemmas.List.{length-map}
 use Rattle.ss_base.specs.declared.ids.ManifestId.{ManifestId}
-use Rattle.ss_base.specs.declared.ids.Place.{Place}
 use Rattle.ss_base.specs.declared.profile.Numbers.{Numbers}
 use Rattle.ss_base.specs.Profile.{AreSound}
 use Rattle.ss_base.specs.Ids.{same_manifest}
-use Rattle.ss_base.proofs.MemberLaws.{In, find_in, map_in}
-use Rattle.ss_base.proofs.IdLaws.{same_manifest-self, same_manifest-true}
+use Rattle.ss_base.proofs.MemberLaws.{find_in, map_in}
+use Rattle.ss_base.proofs.IdLaws.{same_manifest-self}
 use Rattle.chunk_name.specs.Pieces.{piece}
 use Rattle.segment_plan.specs.Plan.{Located}
 use Rattle.journal_entry.specs.declared.entry.Entry.{Entry}

@@ -1,16 +1,13 @@
 -- The chunks of a segment have the lengths of chunks.
-use Rattle.std.proofs.Common.{◌≡◌, ◌⊎◌, ℕ, zero, suc, ◌<◌, ◌≤◌, List, [], ◌∷◌, length, take, drop, get_or, refl, sym, ap, ◌∙◌, subst, inl, inr, arith}
+use Rattle.std.proofs.Common.{◌≡◌, ℕ, zero, suc, ◌<◌, ◌≤◌, List, [], ◌∷◌, length, drop, refl, sym, subst, inl, inr, arith}
 use mathlib.Core.List.{map}
 use Rattle.std.specs.List.{All, slice_index_or}
-use Rattle.std.proofs.lemmas.Option.{slice_get-get_or}
-use Rattle.std.proofs.lemmas.List.{get_or_past}
 use Rattle.ss_base.specs.declared.ids.ManifestId.{ManifestId}
 use Rattle.ss_base.specs.declared.name.Piece.{Piece}
 use Rattle.ss_base.specs.declared.profile.Numbers.{Numbers}
 use Rattle.ss_base.specs.Profile.{AreSound}
 use Rattle.ss_base.specs.Parts.{parts, parts_within}
 use Rattle.ss_base.proofs.MemberLaws.{In, take_in, map_in, All-from_in}
-use Rattle.ss_base.proofs.GetLaws.{get_in}
 use Rattle.tttd_chunker.specs.Cut.{cut}
 use Rattle.tttd_chunker.specs.IsCut.{IsSized}
 use Rattle.tttd_chunker.proofs.CutLaws.{cut-sized}
