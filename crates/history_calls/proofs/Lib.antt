@@ -1,0 +1,4 @@
+pub mod OpenLaws
+pub mod UseLaws
+pub mod ListedLaws
+pub mod TurnLaws
