@@ -1,5 +1,5 @@
 // The jobs of a script.
-ghost use Rattle.std.specs.Prelude.{◌≡◌, ◌<◌, ◌≤◌, ◌^◌, ◌++◌, ℕ, length, All, IfOk, IfErr, IsErrOf, OnOk};
+ghost use Rattle.std.specs.Prelude.{◌<◌, ◌≤◌, ◌^◌, ℕ, length, All, IfOk, IfErr, IsErrOf, OnOk};
 ghost use Rattle.job_script.specs.Grammar.{IsJob};
 ghost use Rattle.job_script.specs.Script.{most_jobs, HasJobs, IsFirstBad, HasTooMany};
 ghost use Rattle.job_script.specs.Step.{AddsJobs, IsStoppedBy};

@@ -1,5 +1,5 @@
 // What a line says.
-ghost use Rattle.std.specs.Prelude.{◌≡◌, ◌∷◌, [], ℕ, IfSome, IfNone, codes};
+ghost use Rattle.std.specs.Prelude.{◌≡◌, ◌∷◌, ℕ, IfSome, IfNone, codes};
 ghost use Rattle.job_script.specs.declared.job.Job.{Job as AnyJob};
 ghost use Rattle.job_script.specs.declared.job.JobKind.{JobKind as AnyKind};
 ghost use Rattle.job_script.specs.Words.{words};

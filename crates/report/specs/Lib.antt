@@ -1,1 +1,4 @@
 pub mod EntryLine
+pub mod Outcome
+pub mod JobLine
+pub mod Status
