@@ -3,4 +3,4 @@
 
 mod laws;
 
-pub use laws::stores_what_was_loaded;
+pub use laws::{is_of_its_sessions_alone, new_objects_are_absent, stays_of_streams, stores_what_was_loaded};
