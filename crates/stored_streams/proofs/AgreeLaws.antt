@@ -5,7 +5,6 @@ use Rattle.std.specs.List.{Contains, slice_index_or}
 use Rattle.std.proofs.lemmas.Bool.{eq-eqb, and_parts}
 use Rattle.ss_base.specs.declared.ids.ContainerId.{ContainerId}
 use Rattle.ss_base.specs.declared.ids.ManifestId.{ManifestId}
-use Rattle.ss_base.specs.declared.ids.Place.{Place}
 use Rattle.ss_base.specs.declared.name.Name.{Name}
 use Rattle.ss_base.specs.declared.name.Piece.{Piece}
 use Rattle.ss_base.specs.declared.profile.Numbers.{Numbers}
@@ -29,13 +28,13 @@ use Rattle.history.specs.declared.rules.Rules.{Rules}
 use Rattle.history.specs.Sessions.{begins, has, finishes, aborts, commits_of, pending_champions}
 use Rattle.history.specs.Need.{is_live}
 use Rattle.history.specs.Legal.{is_legal, is_allowed}
-use Rattle.history_laws.proofs.Allowed.{IsStep, step, finishes_open, aborts_open, choose_says, commit_says}
+use Rattle.history_laws.proofs.Allowed.{step, finishes_open, aborts_open, choose_says, commit_says}
 use Rattle.history_laws.proofs.SessionLaws.{has_older, unfinished_is, committed_begun}
 use Rattle.history_laws.proofs.NeedLaws.{manifest_listed}
 use Rattle.history_laws.proofs.LiveLaws.{pending_committed}
 use Rattle.stored_streams.specs.Streams.{Streams, segment_count, manifest_chunks, manifest_pieces}
 use Rattle.stored_streams.specs.Plans.{Planned, planned_places, located_of, plan_for, next_plan, plans_after, plans_of, end_of, laid_of, text_of, containers_of}
-use Rattle.stored_streams.specs.OfStreams.{next_of, ChoosesSegment, HoldsSegment, ContentOf, IsComplete, StoresSegment, StoredOf, AbortsWith, EndOf, EachEntry, HasContents, HasStored, IsOfStreams}
+use Rattle.stored_streams.specs.OfStreams.{next_of, ContentOf, IsComplete, StoresSegment, StoredOf, EndOf, EachEntry, HasContents, HasStored, IsOfStreams}
 use Rattle.stored_streams.specs.Agree.{AgreeOn}
 use Rattle.stored_streams.specs.Whole.{IsChunkWith, IsManifestWhole, HasRecords, IsWhole}
 

@@ -7,3 +7,4 @@ pub mod LoadLaws
 pub mod StayLaws
 pub mod AgreeLaws
 pub mod NameLaws
+pub mod SecondBackupLaws

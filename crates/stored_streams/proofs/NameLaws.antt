@@ -1,5 +1,5 @@
 -- Objects are told apart by their names, and those of a new session have new names.
-use Rattle.std.proofs.Common.{◌≡◌, ◌≢◌, ◌⊎◌, ℕ, zero, suc, ◌<◌, ◌≤◌, ◌^◌, true, List, [], ◌∷◌, ◌++◌, length, drop, get_or, Option, Some, None, refl, sym, ap, ◌∙◌, inl, inr, append_assoc, codes, arith}
+use Rattle.std.proofs.Common.{◌≡◌, ◌≢◌, ℕ, suc, ◌<◌, ◌≤◌, ◌^◌, true, List, [], ◌∷◌, ◌++◌, length, drop, get_or, Option, Some, None, refl, sym, ap, ◌∙◌, inl, inr, append_assoc, codes, arith}
 use Rattle.std.specs.Fmt.{decimal}
 use Rattle.std.specs.FinMap as map
 use Rattle.std.specs.List.{Contains}

@@ -1,8 +1,6 @@
 -- Objects of which none but those that a history knows of, and the journal, are there (this project's own).
 use Rattle.std.specs.Prelude.{ℕ, ◌≡◌, ◌⊎◌, List, Contains, codes, Some}
 use Rattle.std.specs.FinMap as map
-use Rattle.ss_base.specs.declared.ids.ContainerId.{ContainerId}
-use Rattle.ss_base.specs.declared.ids.ManifestId.{ManifestId}
 use Rattle.ss_base.specs.declared.object.Object.{Object}
 use Rattle.ss_base.specs.declared.object.Object.TheVariants.{Container, Manifest}
 use Rattle.ss_base.specs.ObjectName.{object_text}

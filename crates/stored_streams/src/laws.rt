@@ -1,5 +1,5 @@
 // From what loads gave to what the streams say.
-ghost use Rattle.std.specs.Prelude.{ℕ, ◌≡◌, ◌≢◌, ◌<◌, ◌≤◌, ◌^◌, ◌++◌, ◌⊎◌, List, true, codes, None};
+ghost use Rattle.std.specs.Prelude.{ℕ, ◌≡◌, ◌≢◌, ◌<◌, ◌≤◌, ◌^◌, ◌∷◌, ◌++◌, ◌⊎◌, [], List, true, codes, None};
 ghost use Rattle.std.specs.FinMap as map;
 ghost use Rattle.std.specs.List.{All};
 ghost use Rattle.journal_entry.specs.declared.entry.Entry.{Entry};
@@ -20,6 +20,8 @@ ghost use Rattle.stored_streams.specs.Collision.{Collide};
 ghost use Rattle.stored_streams.specs.Reads.{Reads, IsGiven};
 ghost use Rattle.stored_streams.specs.Agree.{AgreeOn};
 ghost use Rattle.stored_streams.specs.Whole.{IsWhole};
+ghost use Rattle.segment_reader.specs.SegmentsOf.{segments_of};
+ghost use Rattle.stored_streams.specs.SecondBackup.{IsOneHook, AsksFor, rules_for, each_time, loads_for, reads_for, second_backup, first_backup};
 ghost use Rattle.stored_streams.specs.Known.{session_of, HasOnlyKnown};
 
 /// A backup knows only what its loads gave. Where each newer commit of a legal history stores its segment against
@@ -78,4 +80,12 @@ pub fn new_objects_are_absent()
         → is_legal rules past ≡ true → HasOnlyKnown past objects
         → session_count past ≤ session_of object → session_of object < 2 ^ 32
         → map.get objects (object_text object) ≡ None }
+{}
+
+/// What the law of what is stored asks for can be had: the second backup of a stream that is one chunk, where the chunk's
+/// name is a hook, so that the first backup's manifest is its champion. A stream of one byte is one chunk. It runs nothing.
+pub fn stored_can_be_shown()
+    ensures shown { (profile : Profile) (bytes : List ℕ) → IsOneHook (numbers_of profile) bytes
+        → AsksFor (numbers_of profile) (rules_for (numbers_of profile)) (each_time bytes) (loads_for bytes) (reads_for bytes) (second_backup bytes) (first_backup bytes) }
+    ensures byte { (profile : Profile) (byte : ℕ) → segments_of (numbers_of profile) (byte ∷ []) ≡ ((byte ∷ []) ∷ []) ∷ [] }
 {}

@@ -3,4 +3,10 @@
 
 mod laws;
 
-pub use laws::{is_of_its_sessions_alone, new_objects_are_absent, stays_of_streams, stores_what_was_loaded};
+pub use laws::{
+    is_of_its_sessions_alone, new_objects_are_absent, stays_of_streams, stored_can_be_shown,
+    stores_what_was_loaded,
+};
+
+#[cfg(test)]
+mod tests;
