@@ -197,9 +197,10 @@ each_agrees : (n : Numbers) (rules : Rules) (one other : Streams) (asks others :
 each_agrees n rules one other asks others [] carries legal agree each = tt
 each_agrees n rules one other asks others (entry ∷ past) carries legal agree each =
     let now = step rules entry past legal in
-    let agree_past = agree_before entry past one other agree in
-    (each_agrees n rules one other asks others past carries now.legal agree_past each.0,
-    carries past (agreed n rules one other past now.legal agree_past) entry.author entry.point now.allowed each.1)
+    let agree_past = agree_before entry past one other agree in (
+      each_agrees n rules one other asks others past carries now.legal agree_past each.0,
+      carries past (agreed n rules one other past now.legal agree_past) entry.author entry.point now.allowed each.1,
+    )
 
 pub contents_agree : (n : Numbers) (rules : Rules) (one other : Streams) (past : List Entry) → is_legal rules past ≡ true → AgreeOn past one other → HasContents n one past → HasContents n other past
 contents_agree n rules one other past legal agree has = record {

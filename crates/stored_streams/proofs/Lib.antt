@@ -8,3 +8,4 @@ pub mod StayLaws
 pub mod AgreeLaws
 pub mod NameLaws
 pub mod SecondBackupLaws
+pub mod BesideLaws

@@ -171,15 +171,28 @@ counts_true len fresh fresh_bytes some few one_fresh bytes =
 two_entries : (h content text : Name) (len : ℕ) → length h.0 ≡ 32 → length content.0 ≡ 32 → length text.0 ≡ 32 → 1 ≤ len → len ≤ 45875200 → AllByRecursion IsEntry (by 1 (Finish 1 0) ∷ commit content text len 1 0 0 ∷ by 1 (Choose 1 (h ∷ []) (manifest_of 0 ∷ [])) ∷ begin 98 1 ∷ one h content text len)
 two_entries h content text len dh dc dt some few =
     let zero : 0 < 2 ^ 32 = omega arith in
-    let one : 1 < 2 ^ 32 = omega arith in
-    (finish_entry 1 0 one zero,
-    (commit_entry content text len 1 0 0 one dc dt few (omega arith) (omega arith) (counts_true len 0 0 some few (omega arith) (omega arith)),
-    (choose_entry 1 h (manifest_of 0 ∷ []) one dh ((zero, zero), tt) (omega arith),
-    (begin_entry 98 1 refl one,
-    (finish_entry 0 1 zero one,
-    (commit_entry content text len 0 1 len zero dc dt few (omega arith) (omega arith) (counts_true len 1 len some few (omega arith) (omega arith)),
-    (choose_entry 0 h [] zero dh tt (omega arith),
-    (begin_entry 97 0 refl zero, tt))))))))
+    let one : 1 < 2 ^ 32 = omega arith in (
+      finish_entry 1 0 one zero,
+      (
+        commit_entry content text len 1 0 0 one dc dt few (omega arith) (omega arith) (counts_true len 0 0 some few (omega arith) (omega arith)),
+        (
+          choose_entry 1 h (manifest_of 0 ∷ []) one dh ((zero, zero), tt) (omega arith),
+          (
+            begin_entry 98 1 refl one,
+            (
+              finish_entry 0 1 zero one,
+              (
+                commit_entry content text len 0 1 len zero dc dt few (omega arith) (omega arith) (counts_true len 1 len some few (omega arith) (omega arith)),
+                (
+                  choose_entry 0 h [] zero dh tt (omega arith),
+                  (begin_entry 97 0 refl zero, tt),
+                ),
+              ),
+            ),
+          ),
+        ),
+      ),
+    )
 
 -- ---- its segments and plans
 

@@ -89,3 +89,14 @@ pub fn stored_can_be_shown()
         → AsksFor (numbers_of profile) (rules_for (numbers_of profile)) (each_time bytes) (loads_for bytes) (reads_for bytes) (second_backup bytes) (first_backup bytes) }
     ensures byte { (profile : Profile) (byte : ℕ) → segments_of (numbers_of profile) (byte ∷ []) ≡ ((byte ∷ []) ∷ []) ∷ [] }
 {}
+
+/// Objects that are whole for a history of the streams stay so beside an object that was not there. It runs nothing.
+pub fn stays_whole_beside_new_objects()
+    ensures { (profile : Profile) (rules : Rules) (streams : Streams) (past : List Entry) (objects : Objects) (name bytes : List ℕ)
+        → is_legal rules past ≡ true
+        → All IsEntry past
+        → IsOfStreams (numbers_of profile) streams past
+        → IsWhole (numbers_of profile) streams past objects
+        → map.get objects name ≡ None
+        → IsWhole (numbers_of profile) streams past (map.insert objects name bytes) }
+{}

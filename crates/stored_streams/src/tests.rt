@@ -10,6 +10,7 @@ fn each_law_is_called(_rt: HostRuntime) -> Result<(), Fail> {
     is_of_its_sessions_alone();
     new_objects_are_absent();
     stored_can_be_shown();
+    stays_whole_beside_new_objects();
     Ok(())
 }
 
