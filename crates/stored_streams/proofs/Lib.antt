@@ -4,3 +4,8 @@ pub mod PlanLaws
 pub mod CommittedLaws
 pub mod CollisionLaws
 pub mod LoadLaws
+pub mod StayLaws
+pub mod AgreeLaws
+pub mod NameLaws
+pub mod SecondBackupLaws
+pub mod BesideLaws

@@ -5,5 +5,8 @@ pub mod Loads
 pub mod Collision
 pub mod Reads
 pub mod Whole
+pub mod Agree
+pub mod Known
+pub mod SecondBackup
 pub use Rattle.segment_reader.specs.SegmentsOf
 pub use Rattle.segment_plan.specs.Plan

@@ -79,6 +79,14 @@ EndOf n streams past (Finish session containers) = containers ≡ (end_of sessio
 EndOf n streams past (Abort session containers texts) = AbortsWith n streams past session containers
 EndOf n streams past _ = Unit {0}
 
+-- an entry that stores nothing: no choice, commit or end of a session
+abbrev pub StoresNothing : Point → Type 0
+StoresNothing (Choose session chosen champions) = ⊥
+StoresNothing (Commit id content text chunks bytes fresh fresh_bytes uses) = ⊥
+StoresNothing (Finish session containers) = ⊥
+StoresNothing (Abort session containers texts) = ⊥
+StoresNothing _ = Unit {0}
+
 -- ---- the parts of a history
 
 -- each entry has what is asked of it after those before it

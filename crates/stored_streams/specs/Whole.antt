@@ -12,14 +12,15 @@ use Rattle.container_file.specs.Layout.{laid_in}
 use Rattle.container_file.specs.Text.{container_text}
 use Rattle.outside.specs.Shelf.{Objects, bytes_of, part_of}
 use Rattle.journal_entry.specs.declared.entry.Entry.{Entry}
-use Rattle.history.specs.Sessions.{is_unfinished}
+use Rattle.history.specs.Sessions.{begins, has, is_unfinished}
 use Rattle.history.specs.Need.{is_live}
 use Rattle.stored_streams.specs.Streams.{Streams, manifest_chunks, manifest_pieces}
 use Rattle.stored_streams.specs.Plans.{plans_of, planned_places, laid_of, text_of, containers_of}
 
--- the bytes are a chunk of some stream, and have this piece
-pub record IsChunkWith (n : Numbers) (streams : Streams) (piece : Piece) (bytes : List ℕ) : Type 0 where
+-- the bytes are a chunk of the stream of a session that began, and have this piece
+pub record IsChunkWith (n : Numbers) (streams : Streams) (past : List Entry) (piece : Piece) (bytes : List ℕ) : Type 0 where
   pub id : ManifestId
+  pub begun : has (begins id.session) past ≡ true
   pub chunk : Contains (manifest_chunks n streams id) bytes
   pub piece_is : piece_of bytes ≡ piece
 
@@ -27,7 +28,7 @@ pub record IsChunkWith (n : Numbers) (streams : Streams) (piece : Piece) (bytes 
 pub record IsManifestWhole (n : Numbers) (streams : Streams) (past : List Entry) (objects : Objects) (id : ManifestId) : Type 0 where
   pub text : bytes_of objects (object_text (Manifest id)) ≡ text_of n streams id past
   pub chunks : (k : ℕ) (piece : Piece) (place : Place) → slice_get (manifest_pieces n streams id) k ≡ Some piece → slice_get (planned_places id (plans_of n streams past)) k ≡ Some place
-      → IsChunkWith n streams piece (part_of (bytes_of objects (object_text (Container place.container))) place.offset piece.len)
+      → IsChunkWith n streams past piece (part_of (bytes_of objects (object_text (Container place.container))) place.offset piece.len)
 
 -- a container begins with the records that are laid out in it for its session's commits
 pub record HasRecords (n : Numbers) (streams : Streams) (past : List Entry) (objects : Objects) (id : ContainerId) : Type 0 where
