@@ -1,0 +1,7 @@
+pub use Rattle.depot.specs.Loading
+pub use Rattle.depot.specs.Storing
+pub use Rattle.segment_plan.specs.Plan
+pub use Rattle.segment_plan.specs.Planned
+pub mod Loads
+pub mod Stored
+pub mod Storing
