@@ -1,11 +1,14 @@
 -- Loads, one behind another.
-use Rattle.std.proofs.Common.{◌≡◌, ℕ, ◌+◌, ◌*◌, ◌<◌, List, [], ◌∷◌, ◌++◌, length, get_or, take, drop, refl, sym, ap, ◌∙◌, subst, append_assoc, take-append-drop, absurd}
-use Rattle.std.specs.Prelude.{Result, Err}
+use Rattle.std.proofs.Common.{◌≡◌, ℕ, ◌+◌, ◌<◌, false, cond, List, [], ◌∷◌, ◌++◌, length, get_or, take, drop, refl, sym, ap, ◌∙◌, subst, inr, append_assoc, take-append-drop}
+use Rattle.std.specs.Prelude.{Result, Ok, Err}
+use Rattle.std.specs.Result.{is_ok, is_err}
 use Rattle.std.proofs.lemmas.List.{take_more}
 use Rattle.manifest_codec.specs.declared.manifest.Manifest.{Manifest}
+use Rattle.manifest_codec.specs.Text.{manifest_text}
 use Rattle.store_core.specs.View.{KeptView}
 use Rattle.outside.specs.Views.{ShelfView}
 use Rattle.depot.specs.declared.fault.LoadFault.{LoadFault}
+use Rattle.depot.specs.declared.fault.LoadFault.TheVariants.{Memory}
 use Rattle.depot.specs.Loading.{IsLoaded, LoadAnswer}
 use Rattle.segment_store.specs.Loads.{after_load, after_loads, AreLoaded, IsStopped}
 
@@ -36,7 +39,7 @@ one_more_load before now after kepts i kept ms ms' m within is pushed so_far one
     let front : take (i + 1) kepts ≡ take i kepts ++ kept ∷ [] = take_more kepts i kept within ∙ ap (λ (k : KeptView). take i kepts ++ k ∷ []) (sym is) in
     let here : IsLoaded now (after_load now kept m) kept m = subst (λ (s : ShelfView). IsLoaded now s kept m) one.given.call one in
     let there : IsLoaded (after_loads before (take i kepts) ms) (after_load (after_loads before (take i kepts) ms) kept m) kept m =
-        subst (λ (s : ShelfView). IsLoaded s (after_load s kept m) kept m) so_far.shelf here in
+    subst (λ (s : ShelfView). IsLoaded s (after_load s kept m) kept m) so_far.shelf here in
     let all : AreLoaded before (take i kepts ++ kept ∷ []) (ms ++ m ∷ []) = AreLoaded-push before (take i kepts) ms kept m so_far.loaded there in
     record {
       loaded = subst (λ (ks : List KeptView). AreLoaded before ks ms') (sym front) (subst (λ (xs : List Manifest). AreLoaded before (take i kepts ++ kept ∷ []) xs) (sym pushed) all);
@@ -63,3 +66,14 @@ stopped_at before now after kepts i kept ms fault within is so_far failed = reco
   loaded = so_far.loaded;
   failed = subst (λ (s : ShelfView). LoadAnswer s after kept (Err fault)) so_far.shelf failed;
 }
+
+-- the load answered, and its manifest could not be kept
+pub unkept : (before now after : ShelfView) (kepts : List KeptView) (i : ℕ) (kept : KeptView) (ms : List Manifest) (m : Manifest)
+    → i < length kepts → kept ≡ get_or kepts i kept → IsSoFar before now (take i kepts) ms → IsLoaded now after kept m → IsStopped before after kepts Memory
+unkept before now after kepts i kept ms m within is so_far one =
+    stopped_at before now after kepts i kept ms Memory within is so_far (inr (manifest_text m.pieces.items m.places.items, one.given))
+
+-- a push that did not fail
+pub pushed : {T E X : Type 0} (r : Result T E) (was now : List X) (x : X) → is_err r ≡ false → now ≡ cond (is_ok r) (was ++ x ∷ []) was → now ≡ was ++ x ∷ []
+pushed (Ok y) was now x fine is = is
+pushed (Err e) was now x fine is = absurd (cc)

@@ -1,27 +1,26 @@
 -- What a plan of a segment stores, and that a commit can record it.
-use Rattle.std.proofs.Common.{◌≡◌, ℕ, ◌+◌, ◌*◌, ◌^◌, ◌<◌, ◌≤◌, Bool, true, ◌&&◌, List, map, length, refl, sym, ap, ◌∙◌, subst, arith}
+use Rattle.std.proofs.Common.{◌≡◌, ℕ, ◌+◌, ◌^◌, ◌<◌, true, List, map, length, vec_len, refl, ap, ◌∙◌, subst, arith}
 use Rattle.std.proofs.lemmas.Bool.{and_from, le-leb}
 use Rattle.ss_base.specs.declared.ids.ManifestId.{ManifestId}
 use Rattle.ss_base.specs.declared.object.Object.TheVariants.{Manifest as ManifestObject}
 use Rattle.ss_base.specs.ObjectName.{object_text}
-use Rattle.chunk_name.specs.Pieces.{name_of_bytes, pieces}
+use Rattle.chunk_name.specs.Pieces.{name_of_bytes}
 use Rattle.segmenter.specs.declared.segment.Segment.{Segment}
-use Rattle.journal_entry.specs.Bounds.{are_counts, most_chunks, most_bytes, most_uses}
+use Rattle.journal_entry.specs.Bounds.{are_counts, most_chunks, most_bytes}
 use Rattle.container_file.specs.declared.container_end.ContainerEnd.{ContainerEnd}
 use Rattle.container_file.specs.Layout.{written, Written as PutBytes}
 use Rattle.segment_plan.specs.declared.segment_plan.SegmentPlan.{SegmentPlan}
-use Rattle.segment_plan.specs.Plan.{Located, puts_against, end_against, places_against}
+use Rattle.segment_plan.specs.Plan.{Located, puts_against}
 use Rattle.segment_plan.specs.Planned.{segment_chunks, puts_len, IsPlanOf, HasCounts, CanBeStored}
 use Rattle.segment_plan.proofs.PutLaws.{puts-written}
-use Rattle.store_core.specs.declared.values.Stored.{Stored}
 use Rattle.outside.specs.Shelf.{CreateLeaves}
 use Rattle.outside.specs.Views.{ShelfView}
 use Rattle.outside.specs.declared.trouble.Trouble.{Trouble}
 use Rattle.depot.specs.Calls.{after_create, HasFailed}
 use Rattle.depot.specs.Storing.{after_puts, IsStopped}
 use Rattle.depot.specs.Tokens.{WrittenView}
-use Rattle.segment_store.specs.Stored.{text_against, after_segment, bytes_put, IsStoredOf, IsWrittenFor, GoesOn, CanBeCommitted}
-use Rattle.segment_store.specs.Storing.{Progress, IsStored, NotStored, PlanFailed}
+use Rattle.segment_store.specs.Stored.{after_segment, bytes_put, GoesOn, CanBeCommitted, stored_by}
+use Rattle.segment_store.specs.Storing.{IsStored, NotStored, PlanFailed}
 use Rattle.segment_store.specs.Storing.NotStored.{put_failed, write_failed}
 use Rattle.segment_store.specs.Storing.PlanFailed.{put_stopped, write_stopped}
 use Rattle.segment_store.proofs.UseLaws.{ascending_is}
@@ -37,18 +36,6 @@ plan_failed id chunks manifests end room plan shelf shelf' texts texts' trouble 
     write_failed is.end same
     (subst (λ (text : List ℕ). HasFailed (λ old new. CreateLeaves old new name text) (after_puts shelf (puts_against chunks manifests end room)) shelf' trouble) is.text
     (subst (λ (ps : List PutBytes). HasFailed (λ old new. CreateLeaves old new name plan.text.items) (after_puts shelf ps) shelf' trouble) is.puts failed))
-
--- what a commit says of a stored plan
-abbrev pub stored_by : SegmentPlan → Stored
-stored_by plan = record {
-  content = plan.content;
-  text = name_of_bytes plan.text.items;
-  chunks = plan.chunks;
-  bytes = plan.bytes;
-  fresh = plan.fresh;
-  fresh_bytes = plan.fresh_bytes;
-  uses = plan.uses;
-}
 
 -- what shows that it is written
 abbrev pub written_by : ManifestId → SegmentPlan → WrittenView
@@ -91,13 +78,14 @@ plan_done id chunks manifests end room plan shelf shelf' texts texts' is can aft
 
 -- containers go on by at most one for each piece
 pub plan_goes_on : (segment : Segment) (manifests : List Located) (end : ContainerEnd) (room : ℕ) (plan : SegmentPlan)
-    → IsPlanOf (segment_chunks segment) manifests end room plan → CanBeStored manifests end plan → GoesOn end plan.end (length segment.pieces.items)
+    → IsPlanOf (segment_chunks segment) manifests end room plan → CanBeStored manifests end plan → GoesOn end plan.end (vec_len segment.pieces)
 plan_goes_on segment manifests end room plan is can =
     let pieces_are = ap length segment.parts.parts in
+    let size : vec_len segment.pieces ≡ length segment.pieces.items = omega arith in
     let count = is.chunk_count in
     let fresh = can.counts.fresh in
     let most = can.goes_on.most in
-    record { session = can.goes_on.session; least = can.goes_on.least; most = omega (arith, pieces_are, count, fresh, most) }
+    record { session = can.goes_on.session; least = can.goes_on.least; most = omega (arith, pieces_are, size, count, fresh, most) }
 
 counts_are : (plan : SegmentPlan) → HasCounts plan → are_counts plan.chunks plan.bytes plan.fresh plan.fresh_bytes ≡ true
 counts_are plan has =
@@ -109,7 +97,7 @@ counts_are plan has =
 
 -- a commit can record a stored plan
 pub plan_committed : (segment : Segment) (manifests : List Located) (end : ContainerEnd) (room : ℕ) (plan : SegmentPlan)
-    → IsPlanOf (segment_chunks segment) manifests end room plan → CanBeStored manifests end plan → end.containers + length segment.pieces.items < 2 ^ 32
+    → IsPlanOf (segment_chunks segment) manifests end room plan → CanBeStored manifests end plan → end.containers + vec_len segment.pieces < 2 ^ 32
     → CanBeCommitted manifests plan.end (stored_by plan)
 plan_committed segment manifests end room plan is can few =
     let on = plan_goes_on segment manifests end room plan is can in

@@ -1,5 +1,4 @@
 pub use Rattle.depot.specs.Loading
-pub use Rattle.depot.specs.Storing
 pub use Rattle.segment_plan.specs.Plan
 pub use Rattle.segment_plan.specs.Planned
 pub mod Loads

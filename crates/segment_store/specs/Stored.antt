@@ -13,6 +13,7 @@ use Rattle.manifest_codec.specs.Containers.{AreContainers}
 use Rattle.container_file.specs.declared.container_end.ContainerEnd.{ContainerEnd}
 use Rattle.container_file.specs.Chunk.{Chunk}
 use Rattle.container_file.specs.Layout.{Written as PutBytes}
+use Rattle.segment_plan.specs.declared.segment_plan.SegmentPlan.{SegmentPlan}
 use Rattle.segment_plan.specs.Plan.{Located, pieces_of, fresh_of, places_against, puts_against}
 use Rattle.segment_plan.specs.Planned.{total_len}
 use Rattle.segment_plan.specs.Located.{MayUse}
@@ -45,6 +46,18 @@ pub record IsStoredOf (chunks : List (List ℕ)) (manifests : List Located) (end
   pub fresh_count : stored.fresh ≡ length (fresh_of chunks (pieces_of manifests))
   pub fresh_len : stored.fresh_bytes ≡ total_len (map (λ (c : Chunk). c.piece) (fresh_of chunks (pieces_of manifests)))
   pub uses : AreContainers (places_against chunks manifests end room) stored.uses.items
+
+-- what a commit says of a plan that was stored
+abbrev pub stored_by : SegmentPlan → Stored
+stored_by plan = record {
+  content = plan.content;
+  text = name_of_bytes plan.text.items;
+  chunks = plan.chunks;
+  bytes = plan.bytes;
+  fresh = plan.fresh;
+  fresh_bytes = plan.fresh_bytes;
+  uses = plan.uses;
+}
 
 -- what shows that it is written: of this manifest and text, behind these puts, which have the fresh chunks and 36 bytes
 -- more for each

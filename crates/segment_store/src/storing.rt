@@ -1,9 +1,8 @@
 // What is stored of a segment.
 ghost use Rattle.std.specs.Prelude.{◌≡◌, ◌+◌, ◌-◌, ◌<◌, ◌≤◌, ◌^◌, length, vec_len, IfOk};
-ghost use Rattle.chunk_name.specs.Pieces.{name_of_bytes};
 ghost use Rattle.segment_plan.specs.Planned.{segment_chunks, located, puts_len};
 ghost use Rattle.depot.specs.Seen.{shelf_of, seen};
-ghost use Rattle.segment_store.specs.Stored.{GoesOn, CanBeCommitted};
+ghost use Rattle.segment_store.specs.Stored.{GoesOn, CanBeCommitted, stored_by};
 ghost use Rattle.segment_store.specs.Storing.{PlanAnswer, SegmentAnswer};
 
 use chunk_name::name_of;
@@ -68,8 +67,7 @@ fn store_plan<K: Shelf>(
 
 // What a commit says of what is stored by a plan.
 fn stored_of(plan: SegmentPlan) -> Stored
-    ensures text { result.text ≡ name_of_bytes plan.text.items }
-    ensures others { result ≡ record { content = plan.content; text = result.text; chunks = plan.chunks; bytes = plan.bytes; fresh = plan.fresh; fresh_bytes = plan.fresh_bytes; uses = plan.uses } }
+    ensures { result ≡ stored_by plan }
 {
     Stored {
         content: plan.content,

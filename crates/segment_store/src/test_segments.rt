@@ -97,7 +97,12 @@ fn shelf_with(alloc: Global, fails: u32) -> Result<MemShelf, Memory> {
 
 // How many chunks and bytes there are, and how many of both are fresh.
 fn counts(stored: &Stored) -> [u32; 4] {
-    [stored.chunks, stored.bytes, stored.fresh, stored.fresh_bytes]
+    [
+        stored.chunks,
+        stored.bytes,
+        stored.fresh,
+        stored.fresh_bytes,
+    ]
 }
 
 fn load<K: Shelf>(
@@ -171,7 +176,10 @@ fn chunks_of_champions_are_not_stored(rt: HostRuntime) -> Result<(), Fail> {
         return Err("no three champions".into());
     }
     assert_eq!(rt; champions[0].pieces.len(), 4);
-    assert_eq!(rt; champions[1].pieces.as_slice(), [piece_of(b"a"), piece_of(b"b")].as_slice());
+    assert_eq!(rt;
+        champions[1].pieces.as_slice(),
+        [piece_of(b"a"), piece_of(b"b")].as_slice()
+    );
     assert_eq!(rt; champions[2].pieces.as_slice(), [piece_of(b"c")].as_slice());
     let segment = segment_of(alloc, &[b"d", b"c", ZEROS, b"a"])?;
     let mut session = Session::new(1);
