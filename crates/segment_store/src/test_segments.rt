@@ -14,8 +14,6 @@ use std::alloc::Global;
 use std::test::Fail;
 use store_core::{Kept, Stored};
 
-const ZEROS: &[u8] = &[0; 256];
-
 // A session that stores segments.
 #[derive(Drop)]
 struct Session {
@@ -40,7 +38,6 @@ impl Session {
     ) -> Result<Stored, Trouble>
         requires { length champions.now ≤ MAX_CHAMPIONS }
     {
-        uses_of_a_segment();
         if self.end.containers > 1_000 || self.texts > 1_000 {
             return Err(Trouble::Memory);
         }
@@ -90,6 +87,13 @@ fn segment_of(alloc: Global, chunks: &[&[u8]]) -> Result<Segment, Fail> {
     Ok(segment)
 }
 
+// Three chunks of 256 zero bytes and one chunk `b`.
+fn zeros_and_b(alloc: Global) -> Result<Segment, Fail> {
+    let zeros = [0; 256];
+    let chunks: [&[u8]; 4] = [&zeros, &zeros, &zeros, b"b"];
+    segment_of(alloc, &chunks)
+}
+
 // A shelf whose call of this number fails.
 fn shelf_with(alloc: Global, fails: u32) -> Result<MemShelf, Memory> {
     Ok(MemShelf::new(alloc, vec![in alloc; fails]?))
@@ -120,7 +124,7 @@ fn digest(alloc: Global, bytes: Option<&[u8]>) -> Result<String, Fail> {
 // What is kept of three segments, which this stores in session 0.
 fn three_segments(alloc: Global, shelf: &mut MemShelf) -> Result<Vec<Kept>, Fail> {
     let mut session = Session::new(0);
-    let zeros = segment_of(alloc, &[ZEROS, ZEROS, ZEROS, b"b"])?;
+    let zeros = zeros_and_b(alloc)?;
     let mut stored = Vec::new(alloc);
     stored.push(session.store(alloc, shelf, &zeros, &[])?)?;
     stored.push(session.store(alloc, shelf, &segment_of(alloc, &[b"a", b"b"])?, &[])?)?;
@@ -132,7 +136,7 @@ fn three_segments(alloc: Global, shelf: &mut MemShelf) -> Result<Vec<Kept>, Fail
 fn a_segment_is_stored_and_loaded_again(rt: HostRuntime) -> Result<(), Fail> {
     let alloc = rt.alloc();
     let mut shelf = shelf_with(alloc, 0)?;
-    let segment = segment_of(alloc, &[ZEROS, ZEROS, ZEROS, b"b"])?;
+    let segment = zeros_and_b(alloc)?;
     let mut first = Session::new(0);
     let stored = first.store(alloc, &mut shelf, &segment, &[])?;
     assert_eq!(rt; counts(&stored), [4, 769, 2, 257]);
@@ -181,7 +185,9 @@ fn chunks_of_champions_are_not_stored(rt: HostRuntime) -> Result<(), Fail> {
         [piece_of(b"a"), piece_of(b"b")].as_slice()
     );
     assert_eq!(rt; champions[2].pieces.as_slice(), [piece_of(b"c")].as_slice());
-    let segment = segment_of(alloc, &[b"d", b"c", ZEROS, b"a"])?;
+    let zeros = [0; 256];
+    let chunks: [&[u8]; 4] = [b"d", b"c", &zeros, b"a"];
+    let segment = segment_of(alloc, &chunks)?;
     let mut session = Session::new(1);
     let stored = session.store(alloc, &mut shelf, &segment, &champions)?;
     assert_eq!(rt; counts(&stored), [4, 259, 1, 1]);
@@ -233,7 +239,7 @@ fn no_champions_are_loaded_by_no_read(rt: HostRuntime) -> Result<(), Fail> {
 fn a_put_that_fails(rt: HostRuntime) -> Result<(), Fail> {
     let alloc = rt.alloc();
     let mut shelf = shelf_with(alloc, 1)?;
-    let segment = segment_of(alloc, &[ZEROS, b"b"])?;
+    let segment = zeros_and_b(alloc)?;
     let mut session = Session::new(0);
     let failed = session.store(alloc, &mut shelf, &segment, &[]);
     assert!(rt; failed.err() == Some(Trouble::Fault));
@@ -248,7 +254,7 @@ fn a_put_that_fails(rt: HostRuntime) -> Result<(), Fail> {
 fn a_manifest_that_fails(rt: HostRuntime) -> Result<(), Fail> {
     let alloc = rt.alloc();
     let mut shelf = shelf_with(alloc, 2)?;
-    let segment = segment_of(alloc, &[ZEROS, b"b"])?;
+    let segment = zeros_and_b(alloc)?;
     let mut session = Session::new(0);
     let failed = session.store(alloc, &mut shelf, &segment, &[]);
     assert!(rt; failed.err() == Some(Trouble::Fault));
@@ -257,4 +263,9 @@ fn a_manifest_that_fails(rt: HostRuntime) -> Result<(), Fail> {
     assert_eq!(rt; shelf.get("c-0-0").map(|bytes| bytes.len()), Some(345));
     assert!(rt; shelf.get("m-0-0").is_none());
     Ok(())
+}
+
+#[test]
+fn laws_run() {
+    uses_of_a_segment();
 }
