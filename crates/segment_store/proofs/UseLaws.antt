@@ -24,7 +24,7 @@ use Rattle.manifest_codec.specs.Containers.{AreContainers}
 use Rattle.container_file.specs.declared.container_end.ContainerEnd.{ContainerEnd}
 use Rattle.segment_plan.specs.Plan.{Located}
 use Rattle.segment_plan.specs.Planned.{located}
-use Rattle.segment_plan.specs.Located.{MayUse}
+use Rattle.segment_plan.specs.Located.{IsOfManifest, MayUse}
 use Rattle.segment_plan.proofs.LieLaws.{Contains-from_in}
 use Rattle.store_core.specs.View.{KeptView, kept_by, kept, all_kept}
 use Rattle.store_core.specs.declared.values.Stored.{Stored}
@@ -92,18 +92,24 @@ kept_for shelf (k ∷ ks) (m ∷ ms) are manifest (inr later) = let rest = kept_
 own_is : (session containers : ℕ) (id : ContainerId) → id.session ≡ session → id.ordinal < containers → containers < 2 ^ 32 → (eqb id.session session && ltb id.ordinal 4294967295) ≡ true
 own_is session containers id is started few = and_from _ _ (eq-eqb id.session session is) (lt-ltb id.ordinal 4294967295 (omega arith))
 
+-- a container of one of the manifests is a use of one of the champions
+pub of_champion : (past : List Entry) (session : ℕ) (kepts : List KeptView) (shelf : ShelfView) (manifests : List Manifest)
+    → kepts ≡ all_kept (pending_champions session past) past → AreLoaded shelf kepts manifests
+    → (id : ContainerId) → IsOfManifest (located manifests) id → is_use_of_any (pending_champions session past) past id ≡ true
+of_champion past session kepts shelf manifests kepts_are loaded id of =
+    let champions = pending_champions session past in
+    let from = map_in (λ (m : Manifest). record { pieces = m.pieces.items; places = m.places.items }) of.manifest manifests (in_Contains of.manifest (located manifests) of.there) in
+    let view = kept_for shelf kepts manifests loaded from.0 from.1 in
+    let there : Contains (map (λ p. p.container) from.0.places.items) id = subst (λ (l : Located). Contains (map (λ p. p.container) l.places) id) (sym from.2) of.container in
+    use_of_any champions past view.0 id (subst (λ (ks : List KeptView). In view.0 ks) kepts_are view.1) (in_Contains id view.0.uses (view.2.each id there))
+
 may_use : (past : List Entry) (end : ContainerEnd) (kepts : List KeptView) (shelf : ShelfView) (manifests : List Manifest)
     → kepts ≡ all_kept (pending_champions end.session past) past → AreLoaded shelf kepts manifests → end.containers < 2 ^ 32
     → (id : ContainerId) → MayUse (located manifests) end id → is_use end.session (pending_champions end.session past) past id ≡ true
 unfolding is_use
 may_use past end kepts shelf manifests kepts_are loaded few id (inl own) = or_left _ _ (own_is end.session end.containers id own.session own.started few)
 may_use past end kepts shelf manifests kepts_are loaded few id (inr of) =
-    let champions = pending_champions end.session past in
-    let from = map_in (λ (m : Manifest). record { pieces = m.pieces.items; places = m.places.items }) of.manifest manifests (in_Contains of.manifest (located manifests) of.there) in
-    let view = kept_for shelf kepts manifests loaded from.0 from.1 in
-    let there : Contains (map (λ p. p.container) from.0.places.items) id = subst (λ (l : Located). Contains (map (λ p. p.container) l.places) id) (sym from.2) of.container in
-    or_right _ (is_use_of_any champions past id)
-    (use_of_any champions past view.0 id (subst (λ (ks : List KeptView). In view.0 ks) kepts_are view.1) (in_Contains id view.0.uses (view.2.each id there)))
+    or_right _ (is_use_of_any (pending_champions end.session past) past id) (of_champion past end.session kepts shelf manifests kepts_are loaded id of)
 
 all_from : {X : Type 0} (p : X → Bool) (xs : List X) → ((x : X) → In x xs → p x ≡ true) → list_all p xs ≡ true
 all_from p [] each = refl
