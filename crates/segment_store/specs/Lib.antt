@@ -1,0 +1,6 @@
+pub use Rattle.depot.specs.Loading
+pub use Rattle.segment_plan.specs.Plan
+pub use Rattle.segment_plan.specs.Planned
+pub mod Loads
+pub mod Stored
+pub mod Storing
