@@ -1,4 +1,3 @@
 pub mod OpenLaws
 pub mod UseLaws
-pub mod ListedLaws
 pub mod TurnLaws

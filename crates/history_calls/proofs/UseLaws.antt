@@ -1,4 +1,4 @@
--- The containers that a session may use.
+-- The containers that a legal history lists.
 use Rattle.std.proofs.Common.{◌≡◌, ℕ, zero, suc, ◌+◌, ◌<◌, ◌≤◌, ◌⊎◌, Bool, true, false, ◌&&◌, ◌||◌, eqb, ltb, max, List, [], ◌∷◌, length, nat_le, Option, Some, None, refl, sym, ap, ◌∙◌, subst, inl, inr, arith, eqb-true}
 use Rattle.std.specs.Option.{option_and_then}
 use Rattle.std.specs.List.{Contains, list_any, list_all}
@@ -27,10 +27,6 @@ in_there x [] h = absurd h
 in_there x (y ∷ ys) (inl is) = (zero, omega arith, is)
 in_there x (y ∷ ys) (inr h) = let there = in_there x ys h in (suc there.0, let below = there.1 in omega (arith, below), there.2)
 
-all_from : {X : Type 0} (p : X → Bool) (xs : List X) → ((x : X) → In x xs → p x ≡ true) → list_all p xs ≡ true
-all_from p [] each = refl
-all_from p (x ∷ xs) each = and_from (p x) (list_all p xs) (each x (inl refl)) (all_from p xs (λ y there. each y (inr there)))
-
 container_in : (id : ContainerId) (uses : List ContainerId) → has_container id uses ≡ true → In id uses
 unfolding has_container
 container_in id uses h =
@@ -48,7 +44,7 @@ pub record IsListed (id : ContainerId) (past : List Entry) : Type 0 where
   pub there : In entry past
   pub listed : In id (uses_listed entry.point)
 
-use_of_any : (ms : List ManifestId) (past : List Entry) (id : ContainerId) → is_use_of_any ms past id ≡ true → IsListed id past
+pub use_of_any : (ms : List ManifestId) (past : List Entry) (id : ContainerId) → is_use_of_any ms past id ≡ true → IsListed id past
 unfolding is_use_of_any has
 use_of_any ms past id some =
     let one = any_in (λ (m : ManifestId). list_any (λ (e : Entry). lists_use m id e.point) past) ms some in
@@ -94,21 +90,3 @@ listed_below rules (entry ∷ past) id legal is =
       ]
       | inr there ↦ older (record { entry = is.entry; there = there; listed = is.listed })
     ]
-
--- ---- what a commit may list
-
--- the session's own, below 2^32 - 1, or what the Commit of one of the champions lists
-abbrev pub MayList : ℕ → List ManifestId → List Entry → ContainerId → Type 0
-MayList s champions past id = ((id.session ≡ s) × (id.ordinal < 4294967295)) ⊎ ((m : ManifestId) × In m champions × (has (lists_use m id) past ≡ true))
-
-is_use_from : (s : ℕ) (champions : List ManifestId) (past : List Entry) (id : ContainerId) → MayList s champions past id → is_use s champions past id ≡ true
-unfolding is_use is_use_of_any
-is_use_from s champions past id (inl own) = or_left _ _ (and_from (eqb id.session s) (ltb id.ordinal 4294967295) (eq-eqb _ _ own.0) (lt-ltb _ _ own.1))
-is_use_from s champions past id (inr other) =
-    or_right (eqb id.session s && ltb id.ordinal 4294967295) _ (in_any (λ (m : ManifestId). has (lists_use m id) past) other.0 champions other.1 other.2)
-
-pub are_uses_from : (s : ℕ) (past : List Entry) (uses : List ContainerId) → are_ascending uses ≡ true → length uses ≤ most_uses → ((id : ContainerId) → In id uses → MayList s (pending_champions s past) past id) → are_uses s past uses ≡ true
-unfolding are_uses
-are_uses_from s past uses ascending few each =
-    and_from (are_ascending uses) _ ascending (and_from (nat_le (length uses) most_uses) _ (le-leb _ _ few)
-    (all_from (is_use s (pending_champions s past) past) uses (λ id there. is_use_from s (pending_champions s past) past id (each id there))))
