@@ -4,6 +4,7 @@ pub mod CallPlan
 pub mod MemSource
 pub mod MemSink
 pub mod Shelf
+pub mod Behind
 pub mod Views
 pub mod ObjectMap
 pub mod MemShelf

@@ -1,6 +1,7 @@
 // A source over bytes in memory.
 ghost use Rattle.std.specs.Prelude.{◌≡◌, ◌==◌, ◌≤◌, [], Some, take, drop, vec_len, length, IsTrue, IfOk, OnOk, OnErr, MatchResult};
 ghost use Rattle.std.specs.Io.KnownBytes.{Keeps, Consumes, IsAtEnd};
+ghost use Rattle.outside.specs.Behind.{nothing_behind};
 ghost use Rattle.outside.specs.CallPlan.{planned, GoesByPlan};
 ghost use Rattle.outside.specs.Faults.{HasCause};
 
@@ -50,6 +51,8 @@ impl Source for MemSource {
 
     ghost faults = { λ s. s.plan.faults };
 
+    ghost behind = { λ s. nothing_behind };
+
     fn read(&mut self, alloc: Global, max: usize) -> Result<Vec<u8>, Trouble>
         requires { 1 ≤ max }
         ensures most { IfOk result (λ bytes. vec_len bytes ≤ max) }
@@ -59,6 +62,7 @@ impl Source for MemSource {
         ensures end { IfOk result (λ bytes. bytes.items ≡ [] → IsTrue (length self.new.left == 0) × IsAtEnd (Some self.new.left)) }
         ensures stays { IsTrue (length self.old.left == 0) → IsTrue (length self.new.left == 0) × IfOk result (λ bytes. bytes.items ≡ []) }
         ensures cause { HasCause self.old.plan.faults self.new.plan.faults result }
+        ensures behind { nothing_behind ≡ nothing_behind }
 
         // As many bytes as there are, and a fault exactly where the plan has one.
         ensures taken { IfOk result (λ bytes. bytes.items ≡ take max self.old.left) }

@@ -2,6 +2,7 @@
 ghost use Rattle.std.specs.Prelude.{◌≡◌, ◌≤◌, ◌<◌, ℕ, List, [], true, Some, take, length, vec_len, IfOk, OnErr, IsErrOf, IsTrue, MatchResult};
 ghost use Rattle.std.specs.Io.{ReadsAtMost};
 ghost use Rattle.std.specs.Io.KnownBytes.{Keeps, Consumes, IsAtEnd};
+ghost use Rattle.outside.specs.Behind.{nothing_behind};
 ghost use Rattle.outside.specs.Faults.{HasCause};
 
 use crate::{Source, Trouble};
@@ -43,6 +44,8 @@ impl<R: Read> Source for ReadSource<R> {
 
     ghost faults = { reader_faults };
 
+    ghost behind = { λ s. nothing_behind };
+
     fn read(&mut self, alloc: Global, max: usize) -> Result<Vec<u8>, Trouble>
         requires { 1 ≤ max }
         ensures most { IfOk result (λ bytes. vec_len bytes ≤ max) }
@@ -54,6 +57,7 @@ impl<R: Read> Source for ReadSource<R> {
         ensures stays { IsTrue (reader_ended self.old) →
             IsTrue (reader_ended self.new) × IfOk result (λ bytes. bytes.items ≡ []) }
         ensures cause { HasCause (reader_faults self.old) (reader_faults self.new) result }
+        ensures behind { nothing_behind ≡ nothing_behind }
 
         // Only an empty answer ends it.
         ensures ended { MatchResult result

@@ -1,6 +1,7 @@
 // A source of one object of a shelf.
 ghost use Rattle.std.specs.Prelude.{◌≡◌, ◌≤◌, ◌+◌, ◌⊎◌, if◌then◌else◌, ℕ, List, [], true, false, Some, vec_len, IfOk, MatchResult, IsTrue};
 ghost use Rattle.std.specs.Io.KnownBytes.{Keeps, Consumes, IsAtEnd};
+ghost use Rattle.outside.specs.Behind.{shelf_behind};
 ghost use Rattle.outside.specs.Faults.{HasCause};
 ghost use Rattle.outside.specs.Shelf.{left_of, one_more, read_of, next_read};
 
@@ -31,6 +32,7 @@ impl<'a, F: Shelf> ShelfSource<'a, F> {
         ensures at { source_at result ≡ 0 }
         ensures ended { source_ended result ≡ false }
         ensures left { ⟦<ShelfSource<'a, F> as Source>⟧.left result ≡ left_of (F.held files.old) name.now 0 }
+        ensures behind { ⟦<ShelfSource<'a, F> as Source>⟧.behind result ≡ shelf_behind ⟦<F as Shelf>⟧ files.entry }
     {
         ShelfSource {
             files,
@@ -50,6 +52,8 @@ impl<F: Shelf> Source for ShelfSource<'_, F> {
 
     ghost faults = { λ s. F.faults s.files.now };
 
+    ghost behind = { λ s. shelf_behind ⟦<F as Shelf>⟧ s.files };
+
     fn read(&mut self, alloc: Global, max: usize) -> Result<Vec<u8>, Trouble>
         requires { 1 ≤ max }
         ensures most { IfOk result (λ bytes. vec_len bytes ≤ max) }
@@ -59,6 +63,7 @@ impl<F: Shelf> Source for ShelfSource<'_, F> {
         ensures end { IfOk result (λ bytes. bytes.items ≡ [] → IsTrue (source_ended self.new) × IsAtEnd (source_left F.held self.new)) }
         ensures stays { IsTrue (source_ended self.old) → IsTrue (source_ended self.new) × IfOk result (λ bytes. bytes.items ≡ []) }
         ensures cause { HasCause (F.faults (files_of self.old).now) (F.faults (files_of self.new).now) result }
+        ensures behind { shelf_behind ⟦<F as Shelf>⟧ (files_of self.new) ≡ shelf_behind ⟦<F as Shelf>⟧ (files_of self.old) }
 
         // Only an empty answer ends it.
         ensures ended { MatchResult result

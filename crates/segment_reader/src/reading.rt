@@ -38,6 +38,7 @@ pub fn read_segment<S: Source>(
     ensures ends { IfErr result (λ fault. EndsFor fault (numbers_in stream.old) room (bytes_in stream.old)
         (source_view ⟦<S as Source>⟧ source.old) (source_view ⟦<S as Source>⟧ source.new)) }
     ensures count { NextCount result (S.faults source.old) (S.faults source.new) }
+    ensures behind { S.behind source.new ≡ S.behind source.old }
 {
     let mut read = 0;
     loop {

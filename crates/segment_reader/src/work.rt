@@ -72,7 +72,8 @@ impl Work {
 
 /// The next segment of the stream. The source is read in pieces of 65,536 bytes, and only while no whole segment is
 /// pending. `None` comes exactly where the source has ended and nothing is pending, `TooLong` exactly where the source
-/// gave a byte past the limit, `Fault` where a read failed. After an error the work is spent.
+/// gave a byte past the limit, `Fault` where a read failed. After an error the work is spent. What stands behind the
+/// source is as before.
 pub fn next_segment<S: Source>(
     alloc: Global,
     source: &mut S,
@@ -87,6 +88,7 @@ pub fn next_segment<S: Source>(
         (source_view ⟦<S as Source>⟧ source.old) (source_view ⟦<S as Source>⟧ source.new)) }
     ensures err { OnErr result (work.new ≡ failed work.old) }
     ensures count { NextCount result (S.faults source.old) (S.faults source.new) }
+    ensures behind { S.behind source.new ≡ S.behind source.old }
     ensures few { work.new.pending < above_pending work.new.numbers }
 {
     if work.ended {

@@ -145,5 +145,6 @@ loop-segment-preserved g c =
       few = few_more h n piece (bytes_in c.push.new.self) same none.none most is;
       so_far = so_far-more n before (bytes_in h) (seen c.args.source.now) (seen old.source) (seen c.read.new.self) old.read so open_end piece (bytes_in c.push.new.self) (old.read + c.len-in-loop-segment.result) gives most is count;
       within = omega (arith, room, count, c.in_ok-piece.piece.ok.0, kept.within);
+      behind = c.read.ensures.behind ∙ kept.behind;
       count = c.in_ok-piece.ensures.cause.quiet ∙ kept.count;
     }

@@ -14,6 +14,7 @@ invariant-loop-segment g l =
       few : length (bytes_in l.stream) < above_pending (numbers_in l.initial.stream);
       so_far : IsReadSoFar (numbers_in l.initial.stream) (bytes_in l.initial.stream) (bytes_in l.stream) (seen l.initial.source) (seen l.source) l.read;
       within : l.read ≤ l.room;
+      behind : g.S.Source.behind l.source ≡ g.S.Source.behind l.initial.source;
       count : g.S.Source.faults l.source ≡ g.S.Source.faults l.initial.source;
     }
 
