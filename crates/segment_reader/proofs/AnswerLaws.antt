@@ -80,8 +80,8 @@ len_of (Some s) ended read len pending before got after n is more count next =
     omega (arith, length-append before got, parts, ap length next.has.bytes)
 
 module _ (work : WorkState) (after : List ℕ) (source source' : SourceView) (within : work.taken ≤ work.limit) where
-  pub gave-segment : (found : Found) (segment : Segment) → found.segment ≡ Some segment → HasFound work.numbers (work.limit - work.taken) work.bytes after source source' found → GaveSegment work (answered work found after) source source' segment
-  gave-segment found segment is has =
+  pub gave-segment : (found : Found) (segment : Segment) → found.segment ≡ Some segment → HasFound work.numbers (work.limit - work.taken) work.bytes after source source' found → work.ended ≡ false → GaveSegment work (answered work found after) source source' segment
+  gave-segment found segment is has going =
       let next : IsNext work.numbers found.ended segment (work.bytes ++ has.got) after =
       subst (λ (o : Option Segment). MatchOption o ((found.ended ≡ true) × (work.bytes ++ has.got ≡ [])) (λ s. IsNext work.numbers found.ended s (work.bytes ++ has.got) after)) is has.next in
       let some = segment-some segment in
@@ -90,6 +90,7 @@ module _ (work : WorkState) (after : List ℕ) (source source' : SourceView) (wi
       let of = ap length next.has.bytes in
       let taken : work.taken + found.read ≡ work.taken + length has.got = ap (λ k. work.taken + k) has.count in
       record {
+        going = going;
         got = has.got;
         reads = has.reads;
         next = next;

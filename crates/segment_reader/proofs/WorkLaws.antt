@@ -73,11 +73,11 @@ module _ (w : Inside) (old : WorkState) (seen_is : seen w ≡ old) (kept : IsKep
       spent = false;
     }
 
-    pub gives_some : (segment : Segment) → found.segment ≡ Some segment → GaveSegment old (seen (behind w stream found len)) source source' segment
-    gives_some segment some =
+    pub gives_some : w.ended ≡ false → (segment : Segment) → found.segment ≡ Some segment → GaveSegment old (seen (behind w stream found len)) source source' segment
+    gives_some going segment some =
         subst (λ (v : WorkState). GaveSegment v (seen (behind w stream found len)) source source' segment) state_is
         (subst (λ (v : WorkState). GaveSegment state v source source' segment) answered_is
-        (gave-segment state (bytes_in stream) source source' kept.within found segment some has))
+        (gave-segment state (bytes_in stream) source source' kept.within found segment some has going))
 
     pub gives_none : w.ended ≡ false → found.segment ≡ None → GaveNone old (seen (behind w stream found len)) source source'
     gives_none going none =

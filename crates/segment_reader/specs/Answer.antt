@@ -17,8 +17,9 @@ TellsNext n chunks before after left left' =
 abbrev pub may_come : WorkState → ℕ
 may_come work = work.limit - work.taken + length work.bytes
 
--- A segment was given: the first of the bytes that pended and those that were read.
+-- A segment was given, where the source had not ended: the first of the bytes that pended and those that were read.
 pub record GaveSegment (work work' : WorkState) (source source' : SourceView) (segment : Segment) : Type 0 where
+  pub going : work.ended ≡ false
   pub got : List ℕ
   pub reads : IsRead work.numbers work.bytes source source' got
   pub next : IsNext work.numbers work'.ended segment (work.bytes ++ got) work'.bytes

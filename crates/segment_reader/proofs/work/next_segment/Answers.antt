@@ -23,7 +23,8 @@ returns-clause-some g c =
     let found = c.in_ok-found.found in
     let is = has_len found.segment c.len_of.result c.len_of.ensures.none c.len_of.ensures.some in
     some_of found.segment
-    (gives_some c.work.inside c.args.work.now c.work.view_is c.work.invariant c.requires c.read_segment.new.stream found c.len_of.result (seen c.args.source.now) (seen c.read_segment.new.source) c.in_ok-found.ensures.numbers c.in_ok-found.ensures.found is)
+    (gives_some c.work.inside c.args.work.now c.work.view_is c.work.invariant c.requires c.read_segment.new.stream found c.len_of.result (seen c.args.source.now) (seen c.read_segment.new.source) c.in_ok-found.ensures.numbers c.in_ok-found.ensures.found is
+    c.if-work.false)
 
 pub returns-clause-none : goal.returns-clause-none
 returns-clause-none g c =
