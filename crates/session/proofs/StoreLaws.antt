@@ -1,0 +1,62 @@
+-- A segment that is stored for its choice.
+use Rattle.std.proofs.Common.{◌≡◌, ℕ, ◌+◌, ◌*◌, ◌≤◌, ◌⊎◌, List, [], ◌∷◌, length, refl, sym, ap, ◌∙◌, subst, suc, inl, inr}
+use Rattle.ss_base.specs.declared.ids.ManifestId.{ManifestId}
+use Rattle.manifest_codec.specs.declared.manifest.Manifest.{Manifest}
+use Rattle.segmenter.specs.declared.segment.Segment.{Segment}
+use Rattle.segmenter.specs.Segment.{HasChunks}
+use Rattle.segment_plan.specs.Plan.{Located}
+use Rattle.segment_plan.specs.Planned.{segment_chunks, located}
+use Rattle.segment_plan.proofs.ChunkLaws.{segment-again}
+use Rattle.store_core.specs.View.{KeptView}
+use Rattle.store_core.specs.declared.values.Choice.{Choice}
+use Rattle.store_core.specs.declared.values.Stored.{Stored}
+use Rattle.outside.specs.Views.{ShelfView}
+use Rattle.outside.specs.declared.trouble.Trouble.{Trouble}
+use Rattle.depot.specs.declared.fault.LoadFault.{LoadFault}
+use Rattle.depot.specs.declared.fault.BackupFault.{BackupFault}
+use Rattle.depot.specs.Tokens.{WrittenView}
+use Rattle.segment_store.specs.Loads.{after_load, after_loads, AreLoaded, IsStopped}
+use Rattle.segment_store.specs.Storing.{Progress, IsStored, NotStored}
+use Rattle.segment_store.specs.Storing.NotStored.{not_planned, put_failed, write_failed}
+use Rattle.session.specs.Causes.{of_load, of_depot}
+use Rattle.session.specs.Stores.{loaded_for, IsStoredFor}
+use Rattle.session.specs.Stops.{NotStoredFor}
+use Rattle.session.specs.Stops.NotStoredFor.{not_loaded, not_stored}
+
+-- there is one manifest for each champion
+pub loaded_len : (shelf : ShelfView) (kepts : List KeptView) (manifests : List Manifest) → AreLoaded shelf kepts manifests → length manifests ≡ length kepts
+loaded_len shelf [] [] are = refl
+loaded_len shelf [] (m ∷ ms) are = absurd are
+loaded_len shelf (k ∷ ks) [] are = absurd are
+loaded_len shelf (k ∷ ks) (m ∷ ms) are = ap suc (loaded_len (after_load shelf k m) ks ms are.1)
+
+module _ (segment : Segment) (chunks : List (List ℕ)) (has : HasChunks segment chunks) (choice : Choice) (room : ℕ) (before after : Progress) where
+  -- the champions' manifests were loaded, and the segment stored against them
+  pub stored_for : (shelf : ShelfView) (manifests : List Manifest) (stored : Stored) (written : WrittenView)
+      → AreLoaded before.shelf choice.champions.items manifests → shelf ≡ after_loads before.shelf choice.champions.items manifests
+      → IsStored choice.manifest (segment_chunks segment) (located manifests) room (record before { shelf = shelf }) after stored written
+      → IsStoredFor chunks choice room before after stored written
+  stored_for shelf manifests stored written loaded is one = record {
+    manifests = manifests;
+    loaded = loaded;
+    stored_is =
+        subst (λ (s : ShelfView). IsStored choice.manifest chunks (located manifests) room (record before { shelf = s }) after stored written) is
+        (subst (λ (cs : List (List ℕ)). IsStored choice.manifest cs (located manifests) room (record before { shelf = shelf }) after stored written) (segment-again segment chunks has) one);
+  }
+
+  -- or not stored
+  pub not_stored_for : (shelf : ShelfView) (manifests : List Manifest) (trouble : Trouble) (fault : BackupFault)
+      → fault ≡ of_depot trouble → AreLoaded before.shelf choice.champions.items manifests → shelf ≡ after_loads before.shelf choice.champions.items manifests
+      → NotStored choice.manifest (segment_chunks segment) (located manifests) room (record before { shelf = shelf }) after trouble
+      → NotStoredFor chunks choice room before after fault
+  not_stored_for shelf manifests trouble fault cause loaded is failed =
+      not_stored manifests trouble cause loaded
+      (subst (λ (s : ShelfView). NotStored choice.manifest chunks (located manifests) room (record before { shelf = s }) after trouble) is
+      (subst (λ (cs : List (List ℕ)). NotStored choice.manifest cs (located manifests) room (record before { shelf = shelf }) after trouble) (segment-again segment chunks has) failed))
+
+-- how many texts there are where a segment was not stored
+pub texts_of : (id : ManifestId) (chunks : List (List ℕ)) (manifests : List Located) (room : ℕ) (before after : Progress) (trouble : Trouble)
+    → NotStored id chunks manifests room before after trouble → (after.texts ≡ before.texts) ⊎ (after.texts ≡ before.texts + 1)
+texts_of id chunks manifests room before after trouble (not_planned memory same) = inl (ap (λ (p : Progress). p.texts) same)
+texts_of id chunks manifests room before after trouble (put_failed end texts stopped) = inl texts
+texts_of id chunks manifests room before after trouble (write_failed end texts failed) = inr texts

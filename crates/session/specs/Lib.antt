@@ -1,0 +1,12 @@
+pub use Rattle.history_calls.specs.Tokens
+pub use Rattle.history_calls.specs.SessionSteps
+pub use Rattle.segment_store.specs.Loads
+pub use Rattle.segment_store.specs.Stored
+pub use Rattle.segment_store.specs.Storing
+pub mod Causes
+pub mod Stores
+pub mod Ready
+pub mod Stops
+pub mod Split
+pub mod Runs
+pub mod Backup

@@ -1,0 +1,12 @@
+//! The session of a backup: a stream is read, and segment by segment chosen for, stored in the depot and committed.
+#![tactic(auto)]
+
+mod alone;
+mod caller;
+mod causes;
+mod segments;
+mod storing;
+mod stream;
+
+pub use alone::backup_solo;
+pub use caller::backup;
