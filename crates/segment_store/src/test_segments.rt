@@ -24,6 +24,7 @@ struct Run {
     texts: u32,
 }
 
+// The SHA-256 of the segment's pieces, of its manifest's text and of its container's bytes.
 fn content() -> &'static str {
     "0ee3f63a21128d358f9835daab0de0672fea384101054fd3c9f32d1a84b294d1"
 }
