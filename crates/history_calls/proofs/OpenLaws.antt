@@ -2,7 +2,7 @@
 use Rattle.std.proofs.Common.{◌≡◌, ◌≢◌, ℕ, suc, ◌+◌, ◌<◌, ◌≤◌, Bool, true, false, ◌&&◌, ◌||◌, eqb, cond, max, List, [], ◌∷◌, ◌++◌, reverse, Option, Some, None, All, refl, sym, ap, ◌∙◌, subst, inl, inr, arith, eqb-true}
 use Rattle.std.specs.Option.{option_map, option_and_then}
 use Rattle.std.specs.List.{Contains}
-use Rattle.std.proofs.lemmas.Bool.{false≢true, and_parts, or_cases, or_parts, both_ways, false_from_ne_true, eq-eqb, and_from, or_left, or_right, or_from}
+use Rattle.std.proofs.lemmas.Bool.{false≢true, and_parts, or_parts, both_ways, false_from_ne_true, eq-eqb, and_from, or_left, or_right, or_from}
 use Rattle.std.proofs.lemmas.List.{append_assoc, reverse-append}
 use Rattle.ss_base.specs.declared.ids.ContainerId.{ContainerId}
 use Rattle.ss_base.specs.declared.ids.ManifestId.{ManifestId}
@@ -10,7 +10,7 @@ use Rattle.ss_base.specs.declared.name.Name.{Name}
 use Rattle.ss_base.proofs.MemberLaws.{in_Contains, count_one, count_other, count_none}
 use Rattle.journal_entry.specs.declared.entry.Entry.{Entry}
 use Rattle.journal_entry.specs.declared.entry.Point.{Point}
-use Rattle.journal_entry.specs.declared.entry.Point.TheVariants.{Begin, Choose, Commit, Finish, Abort, Delete}
+use Rattle.journal_entry.specs.declared.entry.Point.TheVariants.{Begin, Choose, Commit, Finish, Abort}
 use Rattle.history.specs.declared.rules.Rules.{Rules}
 use Rattle.history.specs.OwnEnd.{greatest_by, end_used, own_end}
 use Rattle.history.specs.Sessions.{is_number, session_begun, begins, chooses, commits, finishes, aborts, closes, deletes, settles, has, newest, author_of, is_unfinished, is_begun_by, is_held, session_count, champions_chosen, pending, commits_of}

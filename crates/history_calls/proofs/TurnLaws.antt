@@ -1,24 +1,23 @@
 -- A session as its caller knows it, call by call.
-use Rattle.std.proofs.Common.{◌≡◌, ◌≢◌, ℕ, ◌+◌, ◌<◌, ◌≤◌, Bool, true, false, List, [], ◌∷◌, ◌++◌, reverse, Option, Some, None, Ok, Err, refl, sym, ap, ◌∙◌, subst, inl, inr, arith}
+use Rattle.std.proofs.Common.{◌≡◌, ℕ, ◌+◌, ◌<◌, ◌≤◌, true, List, [], ◌∷◌, ◌++◌, reverse, Option, Some, None, Ok, Err, refl, sym, ap, ◌∙◌, subst}
 use Rattle.std.specs.List.{Contains, filter_map}
-use Rattle.std.specs.Option.{option_and_then, unwrap_or}
+use Rattle.std.specs.Option.{unwrap_or}
 use Rattle.std.proofs.lemmas.List.{reverse-append}
 use Rattle.ss_base.specs.declared.ids.ContainerId.{ContainerId}
 use Rattle.ss_base.specs.declared.ids.ManifestId.{ManifestId}
 use Rattle.ss_base.specs.declared.name.Name.{Name}
 use Rattle.journal_entry.specs.declared.entry.Entry.{Entry}
 use Rattle.journal_entry.specs.declared.entry.Point.TheVariants.{Begin, Choose, Commit}
-use Rattle.history.specs.declared.rules.Rules.{Rules}
 use Rattle.history.specs.Need.{commits_manifest}
-use Rattle.history.specs.Sessions.{newest, pending, pending_champions, commits_of}
+use Rattle.history.specs.Sessions.{newest, pending, pending_champions}
 use Rattle.history.specs.StandingList.{champions_for}
-use Rattle.history.specs.Legal.{is_legal, reply_to_begin}
+use Rattle.history.specs.Legal.{is_legal}
 use Rattle.history.proofs.LegalLaws.{is_legal-older}
 use Rattle.store_core.specs.declared.fault.PointFault.{PointFault}
 use Rattle.store_core.specs.declared.fault.PointFault.TheVariants.{Full, Memory}
 use Rattle.store_core.specs.declared.values.Choice.{Choice}
 use Rattle.store_core.specs.declared.values.Stored.{Stored}
-use Rattle.store_core.specs.View.{StateView, KeptView, past_of, rules_of, made, Adds, IsFull, kept_by, kept, all_kept}
+use Rattle.store_core.specs.View.{StateView, KeptView, past_of, rules_of, made, Adds, kept, all_kept}
 use Rattle.store_core.specs.Answers.{BeginAnswer, ChooseAnswer, CommitAnswer, commit_entry}
 use Rattle.history_calls.specs.OpenAt.{IsOpenAt, IsPendingSo}
 use Rattle.history_calls.specs.Turn.{IsTurn, AtTurn}

@@ -1,21 +1,19 @@
 -- The containers that a legal history lists.
-use Rattle.std.proofs.Common.{◌≡◌, ℕ, zero, suc, ◌+◌, ◌<◌, ◌≤◌, ◌⊎◌, Bool, true, false, ◌&&◌, ◌||◌, eqb, ltb, max, List, [], ◌∷◌, length, nat_le, Option, Some, None, refl, sym, ap, ◌∙◌, subst, inl, inr, arith, eqb-true}
-use Rattle.std.specs.Option.{option_and_then}
-use Rattle.std.specs.List.{Contains, list_any, list_all}
-use Rattle.std.proofs.lemmas.Bool.{false≢true, and_parts, and_from, or_cases, or_left, or_right, lt-ltb, le-leb, eq-eqb, cases_Bool}
+use Rattle.std.proofs.Common.{◌≡◌, ℕ, zero, suc, ◌<◌, ◌≤◌, ◌⊎◌, true, false, ◌&&◌, eqb, ltb, List, [], ◌∷◌, refl, sym, ◌∙◌, subst, inl, inr, arith, eqb-true}
+use Rattle.std.specs.List.{Contains, list_any}
+use Rattle.std.proofs.lemmas.Bool.{false≢true, and_parts, or_cases, cases_Bool}
 use Rattle.ss_base.specs.declared.ids.ContainerId.{ContainerId}
 use Rattle.ss_base.specs.declared.ids.ManifestId.{ManifestId}
 use Rattle.ss_base.specs.Ids.{same_manifest, same_container, has_container}
 use Rattle.ss_base.specs.Order.{are_ascending}
 use Rattle.ss_base.proofs.IdLaws.{same_container-true}
-use Rattle.ss_base.proofs.MemberLaws.{In, any_in, in_any, all_in}
-use Rattle.journal_entry.specs.Bounds.{most_uses}
+use Rattle.ss_base.proofs.MemberLaws.{In, any_in, all_in}
 use Rattle.journal_entry.specs.declared.entry.Entry.{Entry}
 use Rattle.journal_entry.specs.declared.entry.Point.{Point}
 use Rattle.journal_entry.specs.declared.entry.Point.TheVariants.{Commit}
 use Rattle.history.specs.declared.rules.Rules.{Rules}
 use Rattle.history.specs.Sessions.{has, pending_champions}
-use Rattle.history.specs.OwnEnd.{greatest_by, end_used, own_end}
+use Rattle.history.specs.OwnEnd.{greatest_by, own_end}
 use Rattle.history.specs.Legal.{lists_use, is_use_of_any, is_use, are_uses, is_allowed, is_legal}
 use Rattle.history_laws.specs.EntryNumbers.{uses_listed}
 use Rattle.history_laws.specs.OwnUse.{UsesOwn}
