@@ -5,7 +5,6 @@ use Rattle.std.proofs.lemmas.List.{take_more, map-append}
 use Rattle.std.proofs.lemmas.Slice.Zip.{length-zip, get_or-zip}
 use Rattle.ss_base.specs.declared.ids.Place.{Place}
 use Rattle.ss_base.specs.declared.name.Piece.{Piece}
-
 use Rattle.manifest_codec.specs.declared.manifest.Manifest.{Manifest}
 use Rattle.store_core.specs.View.{KeptView}
 use Rattle.outside.specs.Views.{ShelfView}
@@ -163,9 +162,10 @@ pub listed_at : (manifest : Manifest) (i : ℕ) (piece : Piece) (place : Place) 
 listed_at manifest i piece place first second piece_is place_is =
     let pieces = manifest.pieces.items in
     let places = manifest.places.items in
-    let size = length-zip pieces places in
-    (omega (arith, size, first, second),
-    (λ j. (piece_is j, place_is j)) ∙ sym (get_or-zip pieces places i (piece, place) first second))
+    let size = length-zip pieces places in (
+      omega (arith, size, first, second),
+      (λ j. (piece_is j, place_is j)) ∙ sym (get_or-zip pieces places i (piece, place) first second),
+    )
 
 -- a manifest that was loaded, and the copy of its chunks
 pub manifest_copy : (output : List ℕ) (before after : Shelves) (loaded : ShelfView) (kept : KeptView) (manifest : Manifest) (start : ℕ) (result : Result ℕ RestoreFault)

@@ -25,7 +25,7 @@ with_output-push files output chunks bytes =
     let wrote = wrote-push files.wrote output chunks bytes in
     λ i. record files { held = held i; wrote = wrote i }
 
-more_output : (files : ShelfView) (output : List ℕ) (done chunks : List (List ℕ)) → after_adding (with_output files output done) output chunks ≡ with_output files output (done ++ chunks)
+pub more_output : (files : ShelfView) (output : List ℕ) (done chunks : List (List ℕ)) → after_adding (with_output files output done) output chunks ≡ with_output files output (done ++ chunks)
 more_output files output done [] = ap (with_output files output) (sym (append-nil done))
 more_output files output done (bytes ∷ chunks) =
     ap (λ (s : ShelfView). after_adding s output chunks) (with_output-push files output done bytes)

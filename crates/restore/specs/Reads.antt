@@ -8,6 +8,7 @@ use Rattle.ss_base.specs.ObjectName.{object_text}
 use Rattle.manifest_codec.specs.declared.manifest.Manifest.{Manifest}
 use Rattle.manifest_codec.specs.Text.{manifest_text}
 use Rattle.store_core.specs.View.{KeptView}
+use Rattle.outside.specs.Shelf.{Objects, bytes_of, part_of}
 use Rattle.outside.specs.Views.{ShelfView}
 use Rattle.depot.specs.Calls.{after_read}
 use Rattle.depot.specs.Chunks.{IsChunkRead}
@@ -77,3 +78,20 @@ bytes_of_chunks chunks = map (λ (c : ChunkRead). c.bytes) chunks
 
 abbrev pub bytes_of_manifests : List ManifestRead → List (List ℕ)
 bytes_of_manifests manifests = flat_map (λ (one : ManifestRead). bytes_of_chunks one.chunks) manifests
+
+-- ---- where the objects are told
+
+-- the chunks of manifests, in order
+abbrev pub listed_by_all : List ManifestRead → List Listed
+listed_by_all manifests = flat_map (λ (one : ManifestRead). listed_by one.manifest) manifests
+
+abbrev pub text_of : ManifestRead → List ℕ
+text_of one = manifest_text one.manifest.pieces.items one.manifest.places.items
+
+-- what lies at the place of a chunk, of its piece's length
+abbrev pub chunk_at : Objects → Listed → List ℕ
+chunk_at objects listed = part_of (bytes_of objects (object_text (Container listed.1.container))) listed.1.offset listed.0.len
+
+-- what a manifest's object begins with, 48 bytes for each chunk
+abbrev pub text_at : Objects → KeptView → List ℕ
+text_at objects kept = part_of (bytes_of objects (object_text (ManifestObject kept.id))) 0 (48 * kept.chunks)

@@ -1,10 +1,25 @@
 // What an output holds.
-ghost use Rattle.std.specs.Prelude.{◌≡◌, List, ℕ};
+ghost use Rattle.std.specs.Prelude.{◌≡◌, ◌++◌, List, ℕ, map, Some};
+ghost use Rattle.chunk_name.specs.Pieces.{name_of_bytes};
+ghost use Rattle.outside.specs.Shelf.{Objects};
 ghost use Rattle.outside.specs.Views.{ShelfView};
+ghost use Rattle.restore.specs.Reads.{Listed, ManifestRead, AreManifestsRead, bytes_of_manifests, listed_by_all, text_of, chunk_at, text_at};
 ghost use Rattle.restore.specs.Output.{after_making, after_adding, with_output};
 
-/// Chunks that are added to an output one behind another are its bytes, joined. It runs nothing.
+/// Chunks that are added to an output one behind another are its bytes, joined. Each has the name that the manifests
+/// list, and each manifest's text has the digest that was kept; where the objects of the depot are told, these are the
+/// bytes at the places, and the manifests' objects. It runs nothing.
 pub fn output_of_a_restore()
     ensures joined { (files : ShelfView) (output : List ℕ) (chunks : List (List ℕ))
         → after_adding (after_making files output) output chunks ≡ with_output files output chunks }
+    ensures more { (files : ShelfView) (output : List ℕ) (done chunks : List (List ℕ))
+        → after_adding (with_output files output done) output chunks ≡ with_output files output (done ++ chunks) }
+    ensures names { (depot : ShelfView) (manifests : List ManifestRead) → AreManifestsRead depot manifests
+        → map name_of_bytes (bytes_of_manifests manifests) ≡ map (λ (l : Listed). l.0.name) (listed_by_all manifests) }
+    ensures digests { (depot : ShelfView) (manifests : List ManifestRead) → AreManifestsRead depot manifests
+        → map (λ (m : ManifestRead). name_of_bytes (text_of m)) manifests ≡ map (λ (m : ManifestRead). m.kept.text) manifests }
+    ensures chunks { (depot : ShelfView) (objects : Objects) (manifests : List ManifestRead) → AreManifestsRead depot manifests → depot.held ≡ Some objects
+        → bytes_of_manifests manifests ≡ map (chunk_at objects) (listed_by_all manifests) }
+    ensures texts { (depot : ShelfView) (objects : Objects) (manifests : List ManifestRead) → AreManifestsRead depot manifests → depot.held ≡ Some objects
+        → map text_of manifests ≡ map (λ (m : ManifestRead). text_at objects m.kept) manifests }
 {}

@@ -1,8 +1,9 @@
 // A restore by the one caller of a state.
 ghost use Rattle.std.specs.Prelude.{◌≡◌};
-ghost use Rattle.depot.specs.Seen.{shelf_of};
+ghost use Rattle.outside.specs.Views.{shelf_view, OnlyReads};
+ghost use Rattle.depot.specs.Seen.{shelf_of, seen};
 ghost use Rattle.restore.specs.Copies.{shelves};
-ghost use Rattle.restore.specs.Restores.{StateCalls, RestoreAnswer, RestoreCause};
+ghost use Rattle.restore.specs.Restores.{StateCalls, RestoreAnswer, RestoreCause, RestoreCounts, FilesAnswer};
 
 use crate::restore_by;
 use depot::{Depot, RestoreFault};
@@ -33,6 +34,10 @@ pub fn restore_solo<const L: usize, const M: usize, F: Shelf, K: Shelf>(
         (shelves ⟦<F as Shelf>⟧ ⟦<K as Shelf>⟧ files.new depot.new) result }
     ensures cause { RestoreCause output.now (shelves ⟦<F as Shelf>⟧ ⟦<K as Shelf>⟧ files.old depot.old)
         (shelves ⟦<F as Shelf>⟧ ⟦<K as Shelf>⟧ files.new depot.new) result }
+    ensures counts { RestoreCounts (shelves ⟦<F as Shelf>⟧ ⟦<K as Shelf>⟧ files.old depot.old)
+        (shelves ⟦<F as Shelf>⟧ ⟦<K as Shelf>⟧ files.new depot.new) result }
+    ensures files { FilesAnswer output.now (shelf_view ⟦<F as Shelf>⟧ files.old) (shelf_view ⟦<F as Shelf>⟧ files.new) result }
+    ensures depot { OnlyReads (seen ⟦<K as Shelf>⟧ depot.old) (seen ⟦<K as Shelf>⟧ depot.new) }
 {
     let (_, result) = restore_by(alloc, state, Caller { author }, files, name, output, depot);
     result

@@ -21,7 +21,7 @@ loop-i-preserved g c =
     let at = listed_at c.args.manifest.now c.loop-i.i c.index.result.now c.index-in-loop-i.result.now (search rules) (search rules) (search rules) (search rules) in (
       c.in_ok-len.ensures.same_reference ∙ c.loop-i.invariant.0,
       one_more_chunk c.args.output.now (both c.args.files.now c.args.depot.now) (both c.loop-i.files c.loop-i.depot) (both c.copy_chunk.new.files c.copy_chunk.new.depot)
-      (listed_by c.args.manifest.now) c.loop-i.i (c.index.result.now, c.index-in-loop-i.result.now) c.args.start c.loop-i.count c.in_ok-len.len c.saturating_add-count.result at.0 at.1 c.saturating_add-count.ensures c.loop-i.invariant.1 c.in_ok-len.ensures.answer,
+          (listed_by c.args.manifest.now) c.loop-i.i (c.index.result.now, c.index-in-loop-i.result.now) c.args.start c.loop-i.count c.in_ok-len.len c.saturating_add-count.result at.0 at.1 c.saturating_add-count.ensures c.loop-i.invariant.1 c.in_ok-len.ensures.answer,
     )
 
 pub returns-clause-answer : goal.returns-clause-answer

@@ -16,5 +16,5 @@ loop-kept-preserved g c =
     let both = shelves g.F.Shelf g.K.Shelf in (
       c.in_ok-count.ensures.same_reference ∙ c.loop-kept.invariant.0,
       one_more_manifest c.args.output.now (both c.args.files.now c.args.depot.now) (both c.loop-kept.files c.loop-kept.depot) (both c.copy_manifest.new.files c.copy_manifest.new.depot)
-      c.args.kepts.now c.loop-kept.kept-index c.kept-item.result c.loop-kept.count c.in_ok-count.count c.loop-kept-test.true c.kept-item.is c.loop-kept.invariant.1 c.in_ok-count.ensures.answer,
+          c.args.kepts.now c.loop-kept.kept-index c.kept-item.result c.loop-kept.count c.in_ok-count.count c.loop-kept-test.true c.kept-item.is c.loop-kept.invariant.1 c.in_ok-count.ensures.answer,
     )
