@@ -3,6 +3,7 @@
 use crate::test_state::{Fixture, full_store, store, store_with_damage, store_with_text, stream};
 use chunk_name::name_of;
 use depot::RestoreFault;
+use outside::MemShelf;
 use std::alloc::Global;
 use std::test::Fail;
 
@@ -14,6 +15,17 @@ struct Outcome {
     output: Option<&'static [u8]>,
 }
 
+// Whether the output holds these bytes, or is not there.
+fn holds(files: &MemShelf, output: Option<&[u8]>) -> bool {
+    let Some(bytes) = output else {
+        return files.get("o").is_none();
+    };
+    let Some(held) = files.get("o") else {
+        return false;
+    };
+    held == bytes
+}
+
 fn agrees(
     alloc: Global,
     store: &mut Fixture,
@@ -21,11 +33,9 @@ fn agrees(
     outcome: &Outcome,
 ) -> Result<bool, Fail> {
     let answer = store.restore(alloc, stream(name)?, "o");
-    Ok(
-        answer == outcome.answer
-            && store.state.entries().len() == outcome.entries
-            && store.files.get("o") == outcome.output,
-    )
+    let entries = store.state.entries().len();
+    let held = holds(&store.files, outcome.output);
+    Ok(answer == outcome.answer && entries == outcome.entries && held)
 }
 
 fn ended(

@@ -1,12 +1,11 @@
 // A store with two streams: `x`, of the chunks `ab` and `c`, and `e`, which has no bytes.
 
 use crate::restore_solo;
-use chunk_name::{name_of, piece_of};
+use chunk_name::name_of;
 use depot::{Depot, RestoreFault};
 use history::{Entry, Items, Limits, Point};
-use manifest_codec::{Manifest, content, encode};
 use outside::MemShelf;
-use ss_base::{ContainerId, ManifestId, Memory, Name, Piece, Place, Profile, StreamName};
+use ss_base::{ContainerId, ManifestId, Memory, Name, Profile, StreamName};
 use std::alloc::Global;
 use std::test::Fail;
 use store_core::State;
@@ -27,8 +26,15 @@ impl Fixture {
         output: &str,
     ) -> Result<u64, RestoreFault> {
         let mut depot = Depot::over(&mut self.depot);
-        let (state, files) = (&mut self.state, &mut self.files);
-        restore_solo(alloc, state, 3, files, name, output, &mut depot)
+        restore_solo(
+            alloc,
+            &mut self.state,
+            3,
+            &mut self.files,
+            name,
+            output,
+            &mut depot,
+        )
     }
 }
 
@@ -43,22 +49,21 @@ fn container() -> ContainerId {
     }
 }
 
-fn place(offset: u32) -> Place {
-    Place {
-        container: container(),
-        offset,
-    }
+// The pieces of `x`: the name of each, and its length in 4 bytes.
+fn pieces(alloc: Global) -> Result<Vec<u8>, Memory> {
+    let mut bytes = name_of(b"ab").0.to_vec(alloc)?;
+    bytes.extend_from_slice(&[0, 0, 0, 2])?;
+    bytes.extend_from_slice(&name_of(b"c").0)?;
+    bytes.extend_from_slice(&[0, 0, 0, 1])?;
+    Ok(bytes)
 }
 
-fn pieces(alloc: Global) -> Result<Vec<Piece>, Memory> {
-    Ok(vec![in alloc; piece_of(b"ab"), piece_of(b"c")]?)
-}
-
-// The text of the manifest of `x`.
+// The text of the manifest of `x`: the pieces, and where each lies: in container 0 of session 0, at 52 and at 90.
 pub(crate) fn text(alloc: Global) -> Result<Vec<u8>, Memory> {
-    let places = vec![in alloc; place(52), place(90)]?;
-    let pieces = pieces(alloc)?;
-    encode(alloc, &Manifest { pieces, places })
+    let mut bytes = pieces(alloc)?;
+    bytes.extend_from_slice(&[0, 0, 0, 0, 0, 0, 0, 0, 0, 0, 0, 52])?;
+    bytes.extend_from_slice(&[0, 0, 0, 0, 0, 0, 0, 0, 0, 0, 0, 90])?;
+    Ok(bytes)
 }
 
 fn entry(point: Point) -> Entry {
@@ -76,7 +81,7 @@ fn begin(name: &[u8], session: u32) -> Result<Entry, Fail> {
 fn commit(alloc: Global, text: Name) -> Result<Entry, Fail> {
     Ok(entry(Point::Commit {
         manifest: ManifestId { session: 0, seq: 0 },
-        content: content(&pieces(alloc)?),
+        content: name_of(&pieces(alloc)?),
         text,
         chunks: 2,
         bytes: 3,
