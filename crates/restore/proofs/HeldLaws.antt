@@ -6,7 +6,7 @@ use Rattle.ss_base.specs.ObjectName.{object_text}
 use Rattle.chunk_name.specs.Pieces.{name_of_bytes}
 use Rattle.outside.specs.Shelf.{Objects, part_of, bytes_of}
 use Rattle.outside.specs.Views.{ShelfView, OnlyReads}
-use Rattle.restore.specs.Reads.{Listed, listed_by, ChunkRead, after_chunk, after_chunks, AreChunksRead, ManifestRead, after_load, after_manifest, after_manifests, AreManifestsRead, bytes_of_chunks, bytes_of_manifests, listed_by_all, text_of, chunk_at, text_at}
+use Rattle.restore.specs.Reads.{Listed, listed_by, ChunkRead, after_chunk, after_chunks, AreChunksRead, ManifestRead, after_load, after_manifest, after_manifests, IsManifestRead, AreManifestsRead, bytes_of_chunks, bytes_of_manifests, listed_by_all, text_of, chunk_at, text_at}
 
 -- ---- reads leave what the depot holds
 
@@ -55,17 +55,21 @@ digests_read depot (m ∷ ms) are = λ i. are.0.loaded.digest i ∷ digests_read
 
 -- ---- bytes that are held
 
-told : (held : Option Objects) (objects : Objects) (name bytes : List ℕ) (at max : ℕ) → held ≡ Some objects → IfSome held (λ o. bytes ≡ part_of (bytes_of o name) at max) → bytes ≡ part_of (bytes_of objects name) at max
+pub told : (held : Option Objects) (objects : Objects) (name bytes : List ℕ) (at max : ℕ) → held ≡ Some objects → IfSome held (λ o. bytes ≡ part_of (bytes_of o name) at max) → bytes ≡ part_of (bytes_of objects name) at max
 told held objects name bytes at max is given = subst (λ (h : Option Objects). IfSome h (λ o. bytes ≡ part_of (bytes_of o name) at max)) is given
 
-chunk_bytes : (shelf : ShelfView) (objects : Objects) (cs : List ChunkRead) → AreChunksRead shelf cs → shelf.held ≡ Some objects → bytes_of_chunks cs ≡ map (chunk_at objects) (map (λ (c : ChunkRead). c.listed) cs)
+pub chunk_bytes : (shelf : ShelfView) (objects : Objects) (cs : List ChunkRead) → AreChunksRead shelf cs → shelf.held ≡ Some objects → bytes_of_chunks cs ≡ map (chunk_at objects) (map (λ (c : ChunkRead). c.listed) cs)
 chunk_bytes shelf objects [] are is = refl
 chunk_bytes shelf objects (c ∷ cs) are is = λ i. told shelf.held objects _ c.bytes _ _ is are.0.given.told i ∷ chunk_bytes (after_chunk shelf c) objects cs are.1 is i
+
+-- of one manifest
+pub manifest_bytes : (depot : ShelfView) (objects : Objects) (m : ManifestRead) → IsManifestRead depot m → depot.held ≡ Some objects → bytes_of_chunks m.chunks ≡ map (chunk_at objects) (listed_by m.manifest)
+manifest_bytes depot objects m is held = chunk_bytes (after_load depot m.kept m.manifest) objects m.chunks is.read held ∙ ap (map (chunk_at objects)) is.all
 
 pub chunks_held : (depot : ShelfView) (objects : Objects) (manifests : List ManifestRead) → AreManifestsRead depot manifests → depot.held ≡ Some objects → bytes_of_manifests manifests ≡ map (chunk_at objects) (listed_by_all manifests)
 chunks_held depot objects [] are is = refl
 chunks_held depot objects (m ∷ ms) are is =
-    (λ i. (chunk_bytes (after_load depot m.kept m.manifest) objects m.chunks are.0.read is ∙ ap (map (chunk_at objects)) are.0.all) i
+    (λ i. manifest_bytes depot objects m are.0 is i
     ++ chunks_held (after_manifest depot m) objects ms are.1 ((manifest_unchanged depot m).only.held ∙ is) i)
     ∙ sym (map-append (chunk_at objects) (listed_by m.manifest) (listed_by_all ms))
 

@@ -5,3 +5,5 @@ pub mod ReadingLaws
 pub mod HeldLaws
 pub mod AnswerLaws
 pub mod ShowLaws
+pub mod DamageLaws
+pub mod FrontLaws

@@ -5,3 +5,4 @@ pub mod Reads
 pub mod Output
 pub mod Copies
 pub mod Restores
+pub mod Damage

@@ -4,7 +4,7 @@ use Rattle.std.specs.List.{concat}
 use Rattle.std.specs.Option.{option_map}
 use Rattle.std.specs.FinMap.{contains_key}
 use Rattle.outside.specs.declared.trouble.Trouble.{Trouble}
-use Rattle.outside.specs.Shelf.{with_object, write_of, Written}
+use Rattle.outside.specs.Shelf.{with_object, write_of, Written, CreateLeaves}
 use Rattle.outside.specs.Views.{ShelfView}
 use Rattle.depot.specs.Calls.{after_create, after_append, HasFailed}
 
@@ -29,3 +29,9 @@ with_output shelf output chunks = record shelf {
   held = with_object shelf.held output (concat chunks);
   wrote = option_map (λ (ws : List Written). ws ++ write_of output [] ∷ map (write_of output) chunks) shelf.wrote;
 }
+
+-- After copying that stopped: the output could not be made, and is as it was, empty or absent; or it holds a front of
+-- these bytes, and nothing else.
+pub data HoldsFront (output : List ℕ) (before after : ShelfView) (bytes : List ℕ) : Type 0 where
+  not_made : CreateLeaves before.held after.held output [] → HoldsFront output before after bytes
+  holds : (front back : List ℕ) → bytes ≡ front ++ back → after.held ≡ with_object before.held output front → HoldsFront output before after bytes

@@ -10,7 +10,7 @@ mod output;
 mod solo;
 mod stream;
 
-pub use laws::output_of_a_restore;
+pub use laws::{damage_of_a_restore, front_of_a_restore, output_of_a_restore};
 pub use solo::restore_solo;
 pub use stream::restore_by;
 
