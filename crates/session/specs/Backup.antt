@@ -1,16 +1,17 @@
 -- What a backup does, by its answer (this project's own).
-use Rattle.std.specs.Prelude.{ℕ, ◌≡◌, Bool, true, false, List, IfSome, Result, Ok, Err}
+use Rattle.std.specs.Prelude.{ℕ, ◌≡◌, Bool, true, false, List, [], IfSome, Result, Ok, Err}
 use Rattle.std.specs.FinMap.{contains_key}
 use Rattle.journal_entry.specs.declared.entry.Entry.{Entry}
 use Rattle.outside.specs.Shelf.{left_of}
-use Rattle.outside.specs.Views.{ShelfView, SourceView}
+use Rattle.outside.specs.Views.{ShelfView, SourceView, OnlyReads}
 use Rattle.outside.specs.declared.trouble.Trouble.{Trouble}
 use Rattle.store_core.specs.declared.fault.BeginFault.{BeginFault}
 use Rattle.depot.specs.declared.fault.BackupFault.{BackupFault}
 use Rattle.depot.specs.declared.fault.BackupFault.TheVariants.{NoInput}
 use Rattle.history_calls.specs.Tokens.{IdleView, OpenView}
 use Rattle.history_calls.specs.SessionSteps.{HasBegun, HasNotBegun}
-use Rattle.session.specs.Causes.{of_input, of_begin}
+use Rattle.store_core.specs.View.{StateView}
+use Rattle.session.specs.Causes.{of_input, of_begin, InputAnswer, DepotAnswer}
 use Rattle.session.specs.Runs.{HasStreamed, HasNotStreamed}
 
 -- the input as a source, from its first byte
@@ -56,3 +57,13 @@ BackupAnswer others standings champions files input name before depot after depo
     HasBackedUp others standings champions files input name before depot after depot' session
 BackupAnswer others standings champions files input name before depot after depot' (Err fault) =
     HasNotBackedUp others standings champions files input name before depot after depot' fault
+
+-- The same by a caller that has the history to itself, with a state before and after, and what shows of it: the files are
+-- only read, and a count of faults rose where it is the cause and is as before elsewhere.
+pub record HasRunAlone (standings champions author : ℕ) (files files' : ShelfView) (input name : List ℕ) (old new : StateView) (depot depot' : ShelfView) (result : Result ℕ BackupFault) : Type 0 where
+  pub after : IdleView
+  pub after_is : after.seen ≡ new
+  pub answer : BackupAnswer (λ came. came ≡ []) standings champions files input name (record { author = author; seen = old }) depot after depot' result
+  pub files_are : OnlyReads files files'
+  pub input_count : InputAnswer result files.faults files'.faults
+  pub depot_count : DepotAnswer result depot.faults depot'.faults

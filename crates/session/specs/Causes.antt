@@ -1,5 +1,5 @@
 -- What stops a backup, by what a call answered (this project's own).
-use Rattle.std.specs.Prelude.{◌≡◌, ℕ}
+use Rattle.std.specs.Prelude.{◌≡◌, ℕ, Result, Ok, Err}
 use Rattle.outside.specs.Faults.{Rose}
 use Rattle.outside.specs.declared.trouble.Trouble.{Trouble}
 use Rattle.outside.specs.declared.trouble.Trouble.TheVariants as trouble
@@ -54,3 +54,12 @@ DepotCount _ before after = after ≡ before
 abbrev pub InputCount : BackupFault → ℕ → ℕ → Type 0
 InputCount InputFault before after = Rose before after
 InputCount _ before after = after ≡ before
+
+-- the same of an answer: where there is no cause, a count is as before
+abbrev pub DepotAnswer : {T : Type 0} → Result T BackupFault → ℕ → ℕ → Type 0
+DepotAnswer (Ok done) before after = after ≡ before
+DepotAnswer (Err fault) before after = DepotCount fault before after
+
+abbrev pub InputAnswer : {T : Type 0} → Result T BackupFault → ℕ → ℕ → Type 0
+InputAnswer (Ok done) before after = after ≡ before
+InputAnswer (Err fault) before after = InputCount fault before after

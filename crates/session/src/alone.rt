@@ -1,10 +1,8 @@
 // A backup by a caller that has the history to itself.
-ghost use Rattle.std.specs.Prelude.{◌≡◌, [], MatchResult};
-ghost use Rattle.outside.specs.Views.{shelf_view, OnlyReads};
+ghost use Rattle.std.specs.Prelude.{◌≡◌};
+ghost use Rattle.outside.specs.Views.{shelf_view};
 ghost use Rattle.depot.specs.Seen.{shelf_of, seen};
-ghost use Rattle.history_calls.specs.Tokens.{IdleView};
-ghost use Rattle.session.specs.Causes.{DepotCount, InputCount};
-ghost use Rattle.session.specs.Backup.{BackupAnswer};
+ghost use Rattle.session.specs.Backup.{HasRunAlone};
 
 use crate::caller::backup;
 use depot::{BackupFault, Depot};
@@ -25,14 +23,8 @@ pub fn backup_solo<const L: usize, const M: usize, F: Shelf, K: Shelf>(
     depot: &mut Depot<'_, K>,
 ) -> Result<u32, BackupFault>
     ensures same_reference { (shelf_of depot.new).ghost_name ≡ (shelf_of depot.old).ghost_name }
-    ensures answer { (after : IdleView) × (after.seen ≡ state.new)
-        × BackupAnswer (λ came. came ≡ []) L M (shelf_view ⟦<F as Shelf>⟧ files.old) input.now name
-        (record { author = author; seen = state.old }) (seen ⟦<K as Shelf>⟧ depot.old) after (seen ⟦<K as Shelf>⟧ depot.new) result }
-    ensures files { OnlyReads (shelf_view ⟦<F as Shelf>⟧ files.old) (shelf_view ⟦<F as Shelf>⟧ files.new) }
-    ensures input_count { MatchResult result (λ _. F.faults files.new ≡ F.faults files.old)
-        (λ fault. InputCount fault (F.faults files.old) (F.faults files.new)) }
-    ensures depot_count { MatchResult result (λ _. K.faults (shelf_of depot.new).now ≡ K.faults (shelf_of depot.old).now)
-        (λ fault. DepotCount fault (K.faults (shelf_of depot.old).now) (K.faults (shelf_of depot.new).now)) }
+    ensures answer { HasRunAlone L M author (shelf_view ⟦<F as Shelf>⟧ files.old) (shelf_view ⟦<F as Shelf>⟧ files.new) input.now name
+        state.old state.new (seen ⟦<K as Shelf>⟧ depot.old) (seen ⟦<K as Shelf>⟧ depot.new) result }
 {
     let (_, answer) = backup(alloc, state, Caller { author }, files, input, name, depot);
     answer

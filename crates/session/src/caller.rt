@@ -4,7 +4,7 @@ ghost use Rattle.outside.specs.Views.{shelf_view, OnlyReads};
 ghost use Rattle.depot.specs.Seen.{shelf_of, seen};
 ghost use Rattle.history_calls.specs.OpenAt.{IsOpenAt};
 ghost use Rattle.store_core.specs.View.{past_of};
-ghost use Rattle.session.specs.Causes.{DepotCount, InputCount};
+ghost use Rattle.session.specs.Causes.{DepotCount, InputCount, DepotAnswer, InputAnswer};
 ghost use Rattle.session.specs.Runs.{HasStreamed, HasNotStreamed};
 ghost use Rattle.session.specs.Backup.{input_view, BackupAnswer};
 
@@ -31,10 +31,8 @@ pub fn backup<C: SessionCalls, F: Shelf, K: Shelf>(
     ensures answer { BackupAnswer C.others C.standings C.champions (shelf_view ⟦<F as Shelf>⟧ files.old) input.now name
         (C.of_idle calls.old idle) (seen ⟦<K as Shelf>⟧ depot.old) (C.of_idle calls.new result.0) (seen ⟦<K as Shelf>⟧ depot.new) result.1 }
     ensures files { OnlyReads (shelf_view ⟦<F as Shelf>⟧ files.old) (shelf_view ⟦<F as Shelf>⟧ files.new) }
-    ensures input_count { MatchResult result.1 (λ _. F.faults files.new ≡ F.faults files.old)
-        (λ fault. InputCount fault (F.faults files.old) (F.faults files.new)) }
-    ensures depot_count { MatchResult result.1 (λ _. K.faults (shelf_of depot.new).now ≡ K.faults (shelf_of depot.old).now)
-        (λ fault. DepotCount fault (K.faults (shelf_of depot.old).now) (K.faults (shelf_of depot.new).now)) }
+    ensures input_count { InputAnswer result.1 (F.faults files.old) (F.faults files.new) }
+    ensures depot_count { DepotAnswer result.1 (K.faults (shelf_of depot.old).now) (K.faults (shelf_of depot.new).now) }
 {
     match files.has(input) {
         Ok(true) => {}
