@@ -1,0 +1,2 @@
+pub mod EraseLaws
+pub mod RestoreLaws

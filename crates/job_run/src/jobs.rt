@@ -1,0 +1,43 @@
+// One job.
+ghost use Rattle.outside.specs.Views.{shelf_view};
+ghost use Rattle.job_run.specs.Jobs.{JobDone};
+
+use crate::backups::run_backup;
+use crate::deletions::run_delete;
+use crate::reclaiming::run_reclaim;
+use crate::restores::run_restore;
+use crate::totals::run_stat;
+use job_script::JobKind;
+use outside::Shelf;
+use report::JobAnswer;
+use std::alloc::Global;
+use store_core::State;
+
+/// Does a job as this author, and answers what it answers. A backup keeps the bytes of a file of `files` in `depot`; a
+/// restore writes a stream into one; a delete gives a name free; a reclaim gives over at most 16 objects that nothing
+/// needs, and tries to erase each of them once; a stat tells the totals. The entries of the job stand in the state behind
+/// those before.
+pub fn run_job<const L: usize, const M: usize, F: Shelf, K: Shelf>(
+    alloc: Global,
+    state: &mut State<L, M>,
+    author: u32,
+    kind: &JobKind,
+    files: &mut F,
+    depot: &mut K,
+) -> JobAnswer
+    ensures { JobDone L M author kind.now state.old state.new
+        (record { files = shelf_view ⟦<F as Shelf>⟧ files.old; depot = shelf_view ⟦<K as Shelf>⟧ depot.old })
+        (record { files = shelf_view ⟦<F as Shelf>⟧ files.new; depot = shelf_view ⟦<K as Shelf>⟧ depot.new }) result }
+{
+    match kind {
+        JobKind::Backup { input, name } => {
+            run_backup(alloc, state, author, input, *name, files, depot)
+        }
+        JobKind::Restore { name, output } => {
+            run_restore(alloc, state, author, *name, output, files, depot)
+        }
+        JobKind::Delete { name } => run_delete(state, author, *name),
+        JobKind::Reclaim => run_reclaim(alloc, state, author, depot),
+        JobKind::Stat => run_stat(state, author),
+    }
+}
