@@ -8,3 +8,4 @@ mod ResultLaws
 mod SoFarLaws
 mod StatusLaws
 mod StoreLaws
+pub mod ReportLaws

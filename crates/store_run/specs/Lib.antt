@@ -16,3 +16,4 @@ pub mod Run
 pub mod SegmentLines
 pub mod SoFar
 pub mod Stop
+pub mod JobRun
