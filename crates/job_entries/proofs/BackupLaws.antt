@@ -44,7 +44,7 @@ use Rattle.job_entries.specs.Interleaved.{AddsPoints}
 use Rattle.job_entries.specs.Pairs.{segment_hooks}
 use Rattle.job_entries.specs.Pairs.HasPairsOf.{none as no_pairs}
 use Rattle.job_entries.specs.BackupStores.{StoresStream, IsChoiceOf, StoresFront, BackupStores}
-use Rattle.job_entries.specs.BackupStores.IsChoiceOf.{none, one}
+use Rattle.job_entries.specs.BackupStores.IsChoiceOf.{unread as none_read, unchosen as none_chosen, chosen as one_chosen}
 use Rattle.job_entries.proofs.AddsLaws.{adds-none, adds-then, adds-at_turn, adds-no_more, same_profile}
 use Rattle.job_entries.proofs.StepLaws.{open_at, is_open_at, begin-adds, choose-adds, unchosen-adds, uncommitted-adds, finish-adds, abort-adds, abort_chosen-adds}
 use Rattle.job_entries.proofs.SegmentLaws.{AddsPairs, stored_all-adds}
@@ -125,7 +125,7 @@ module _ (others : List Entry → Type 0) (standings champions : ℕ) (n : Numbe
     gives-up : HasGivenUp others standings champions chunks (record { caller = open_at author session seen; progress = progress }) after shelf fault → GivesUp (chunks ∷ []) seen after fault
     gives-up (unsampled is same aborted) =
         let ends = abort-adds others standings champions author session (open_at author session seen) progress.end.containers progress.texts after refl refl aborted in
-        record { same_author = ends.0; choice = []; choice_of = none refl; containers = progress.end.containers; texts = progress.texts; adds = ends.1; later = later_is fault Memory is tt }
+        record { same_author = ends.0; choice = []; choice_of = none_chosen chunks refl refl; containers = progress.end.containers; texts = progress.texts; adds = ends.1; later = later_is fault Memory is tt }
     gives-up (unchosen back cause is same not_chosen aborted) =
         let hooks = segment_hooks (numbers_of seen.profile) chunks in
         let ends = abort-adds others standings champions author session back progress.end.containers progress.texts after not_chosen.author not_chosen.session aborted in
@@ -133,7 +133,7 @@ module _ (others : List Entry → Type 0) (standings champions : ℕ) (n : Numbe
         record {
           same_author = ends.0;
           choice = [];
-          choice_of = none refl;
+          choice_of = none_chosen chunks refl refl;
           containers = progress.end.containers;
           texts = progress.texts;
           adds = adds-then others author seen back.seen after.seen [] (Abort session progress.end.containers progress.texts ∷ []) came ends.1;
@@ -147,7 +147,7 @@ module _ (others : List Entry → Type 0) (standings champions : ℕ) (n : Numbe
         record {
           same_author = ends.same_author;
           choice = choice;
-          choice_of = one chunks chose.0 refl refl;
+          choice_of = one_chosen chunks chose.0 refl refl;
           containers = ends.containers;
           texts = ends.texts;
           adds =
@@ -160,7 +160,7 @@ module _ (others : List Entry → Type 0) (standings champions : ℕ) (n : Numbe
   gives-up_unread : (seen : StateView) (containers texts : ℕ) (after : IdleView) (fault : BackupFault) → IsLater fault → HasAborted others standings champions (open_at author session seen) containers texts after → GivesUp [] seen after fault
   gives-up_unread seen containers texts after fault later aborted =
       let ends = abort-adds others standings champions author session (open_at author session seen) containers texts after refl refl aborted in
-      record { same_author = ends.0; choice = []; choice_of = none refl; containers = containers; texts = texts; adds = ends.1; later = later }
+      record { same_author = ends.0; choice = []; choice_of = none_read refl refl; containers = containers; texts = texts; adds = ends.1; later = later }
 
   -- ---- the whole session
 

@@ -14,7 +14,7 @@ use Rattle.job_entries.specs.Pairs.HasPairsOf.{none as none_of, pair as pair_of}
 use Rattle.job_entries.specs.BackupPoints.{finished_points, given_up_points, IsChoice, IsGivenUp, BackupPoints}
 use Rattle.job_entries.specs.BackupPoints.IsChoice.{none as no_choice, one as one_choice}
 use Rattle.job_entries.specs.BackupStores.{StoresStream, IsChoiceOf, StoresFront, BackupStores}
-use Rattle.job_entries.specs.BackupStores.IsChoiceOf.{none as no_choice_of, one as choice_of_one}
+use Rattle.job_entries.specs.BackupStores.IsChoiceOf.{unread, unchosen, chosen}
 
 has_pairs : (n : Numbers) (session first : ℕ) (segments : List (List (List ℕ))) (points : List Point) → HasPairsOf n session first segments points → HasPairs session first points
 has_pairs n session _ _ _ (none_of first) = no_pair first
@@ -22,8 +22,9 @@ has_pairs n session _ _ _ (pair_of first chunks segments champions stored points
     one_pair first (segment_hooks n chunks) champions stored points (has_pairs n session (first + 1) segments points rest)
 
 is_choice : (n : Numbers) (session : ℕ) (next : List (List (List ℕ))) (points : List Point) → IsChoiceOf n session next points → IsChoice session points
-is_choice n session next points (no_choice_of is) = no_choice is
-is_choice n session next points (choice_of_one chunks champions is_next is) = one_choice (segment_hooks n chunks) champions is
+is_choice n session next points (unread is_next is) = no_choice is
+is_choice n session next points (unchosen chunks is_next is) = no_choice is
+is_choice n session next points (chosen chunks champions is_next is) = one_choice (segment_hooks n chunks) champions is
 
 module _ (others : List Entry → Type 0) (author : ℕ) (n : Numbers) (source : SourceView) (name : List ℕ) (before after : StateView) where
   -- the points that were added

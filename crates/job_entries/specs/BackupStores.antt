@@ -25,14 +25,15 @@ pub record StoresStream (others : List Entry → Type 0) (author : ℕ) (n : Num
   pub containers : ℕ
   pub adds : AddsPoints others author before after (finished_points name session pairs containers)
 
--- perhaps a Choose for the next segment, with its hooks
+-- What was read and is not stored: no segment; or one, for which there is no Choose, or one with its hooks.
 pub data IsChoiceOf (n : Numbers) (session : ℕ) (next : List (List (List ℕ))) (points : List Point) : Type 0 where
-  none : points ≡ [] → IsChoiceOf n session next points
-  one : (chunks : List (List ℕ)) (champions : List ManifestId) → next ≡ chunks ∷ [] → points ≡ Choose session (segment_hooks n chunks) champions ∷ []
+  unread : next ≡ [] → points ≡ [] → IsChoiceOf n session next points
+  unchosen : (chunks : List (List ℕ)) → next ≡ chunks ∷ [] → points ≡ [] → IsChoiceOf n session next points
+  chosen : (chunks : List (List ℕ)) (champions : List ManifestId) → next ≡ chunks ∷ [] → points ≡ Choose session (segment_hooks n chunks) champions ∷ []
       → IsChoiceOf n session next points
 
 -- The source gave some segments, and a session that was given up has a pair for each, or for each but the last, for
--- which it may have a Choose.
+-- which it may have a Choose more.
 pub record StoresFront (others : List Entry → Type 0) (author : ℕ) (n : Numbers) (source : SourceView) (name : List ℕ) (before after : StateView) : Type 0 where
   pub session : ℕ
   pub segments : List (List (List ℕ))
@@ -48,6 +49,8 @@ pub record StoresFront (others : List Entry → Type 0) (author : ℕ) (n : Numb
   pub texts : ℕ
   pub adds : AddsPoints others author before after (given_up_points name session pairs choice containers texts)
 
+-- By a backup's answer: a session that finished, or one that was given up. Where no session began there is no entry but
+-- the Begin that says that the name is taken.
 abbrev pub BackupStores : (List Entry → Type 0) → ℕ → Numbers → SourceView → List ℕ → StateView → StateView → Result ℕ BackupFault → Type 0
 BackupStores others author n source name before after (Ok session) = StoresStream others author n source name before after session
 BackupStores others author n source name before after (Err Taken) = AddsPoints others author before after (Begin name None ∷ [])
