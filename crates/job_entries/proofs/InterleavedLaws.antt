@@ -26,6 +26,13 @@ module _ (others : List Entry → Type 0) (author : ℕ) where
   own_alone nothing _ _ (theirs came entries points by not_own is) = ap (λ (xs : List Entry). xs ++ entries) (nothing came by) ∙ own_alone nothing entries points is
   own_alone nothing _ _ (own point entries points is) = ap (λ (xs : List Entry). made author point ∷ xs) (own_alone nothing entries points is)
 
+module _ (others more : List Entry → Type 0) (author : ℕ) (weaker : (came : List Entry) → others came → more came) where
+  -- where others may add more
+  pub interleaved-more : (entries : List Entry) (points : List Point) → IsInterleaved others author entries points → IsInterleaved more author entries points
+  interleaved-more _ _ none = none
+  interleaved-more _ _ (theirs came entries points by not_own is) = theirs came entries points (weaker came by) not_own (interleaved-more entries points is)
+  interleaved-more _ _ (own point entries points is) = own point entries points (interleaved-more entries points is)
+
 -- an author's entries among some
 abbrev pub by : ℕ → List Entry → List Entry
 by author entries = filter (λ (entry : Entry). eqb entry.author author) entries

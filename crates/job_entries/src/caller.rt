@@ -44,3 +44,11 @@ pub fn entries_of_a_call<O: Others>()
         → AddsPoints O.others author between after more
         → AddsPoints O.others author before after (points ++ more) }
 {}
+
+/// What a caller added beside others it also added beside others that may add more. It runs nothing.
+pub fn entries_beside_more<O: Others, P: Others>()
+    ensures { (author : ℕ) (before after : StateView) (points : List Point)
+        → ((came : List Entry) → O.others came → P.others came)
+        → AddsPoints O.others author before after points
+        → AddsPoints P.others author before after points }
+{}

@@ -7,6 +7,7 @@ use std::test::Fail;
 fn each_law_is_called(_rt: HostRuntime) -> Result<(), Fail> {
     entries_of_one_caller::<Brand>();
     entries_of_a_call::<Brand>();
+    entries_beside_more::<Brand, Brand>();
     entries_of_a_backup::<Brand>();
     segments_of_a_backup::<Brand>();
     segments_of_an_input();
