@@ -8,4 +8,6 @@ mod ResultLaws
 mod SoFarLaws
 mod StatusLaws
 mod StoreLaws
-pub mod ReportLaws
+mod ReportLaws
+mod KeepLaws
+mod CallLaws

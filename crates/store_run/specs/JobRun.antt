@@ -1,6 +1,7 @@
 -- What a run of one job did (this project's own).
-use Rattle.std.specs.Prelude.{◌≡◌, ℕ, Bool, true, false, if◌then◌else◌, List, [], ◌∷◌, ◌++◌, length, None, Some, Result, Ok, Err}
+use Rattle.std.specs.Prelude.{◌≡◌, ℕ, Bool, true, false, if◌then◌else◌, List, [], ◌∷◌, ◌++◌, length, map, None, Some, Result, Ok, Err}
 use Rattle.journal_entry.specs.declared.entry.Entry.{Entry}
+use Rattle.journal_entry.specs.declared.entry.Point.{Point}
 use Rattle.journal_entry.specs.EntryText.{entries_text}
 use Rattle.outside.specs.Faults.{HasCause}
 use Rattle.outside.specs.Shelf.{AppendLeaves}
@@ -12,7 +13,7 @@ use Rattle.journal_file.specs.Cause.{AppendCount}
 use Rattle.journal_file.specs.Header.{journal_name}
 use Rattle.journal_file.specs.declared.fault.AppendFault.{AppendFault}
 use Rattle.journal_file.specs.declared.fault.AppendFault.TheVariants as added
-use Rattle.store_core.specs.View.{StateView, past_of, author_after}
+use Rattle.store_core.specs.View.{StateView, past_of, author_after, made}
 use Rattle.job_script.specs.declared.job.Job.{Job}
 use Rattle.job_script.specs.declared.job.JobKind.{JobKind}
 use Rattle.report.specs.declared.answer.JobAnswer.{JobAnswer}
@@ -23,7 +24,8 @@ use Rattle.job_run.specs.Jobs.{JobDone}
 use Rattle.store_run.specs.declared.stop.Stop.{Stop}
 use Rattle.store_run.specs.declared.stop.Stop.TheVariants.{DepotFault, Memory, Callers}
 use Rattle.store_run.specs.EntryLines.{entry_lines}
-use Rattle.store_run.specs.Opening.{Opens}
+use Rattle.store_run.specs.Opening.{Opens, IsLegal}
+use Rattle.store_run.specs.JobCalls.{JobCalls}
 use Rattle.store_run.specs.Run.{Refuses}
 use Rattle.store_run.specs.Stop.{fault_line, sink_fault, least_status}
 
@@ -91,8 +93,8 @@ pub record IsKeptAndReported (first : ℕ) (entries : List Entry) (job : Job) (a
 
 -- ---- the run
 
--- A job was done in the store that was opened, as the author that comes next. Its entries stand behind those of the
--- store, and were kept and reported.
+-- A job was done in the store that was opened, as the author that comes next. The entries of its calls stand behind
+-- those of the store, which make a legal history, and were kept and reported.
 pub record HasDoneJob (kind : JobKind) (before after : Shelves) (sink sink' : SinkView) (status : ℕ) : Type 0 where
   pub store : StateView
   pub opened : Shelves
@@ -104,10 +106,12 @@ pub record HasDoneJob (kind : JobKind) (before after : Shelves) (sink sink' : Si
   pub done : Shelves
   pub answer : JobAnswer
   pub job : JobDone 8 8 author kind store new opened done answer
-  pub entries : List Entry
-  pub added : new ≡ record store { entries = store.entries ++ entries }
+  pub points : List Point
+  pub calls : JobCalls kind answer points
+  pub added : new ≡ record store { entries = store.entries ++ map (made author) points }
+  pub legal : IsLegal new
   pub files_kept : after.files ≡ done.files
-  pub ending : IsKeptAndReported (length store.entries) entries (record { lane = 1; kind = kind }) answer done.depot after.depot sink sink' status
+  pub ending : IsKeptAndReported (length store.entries) (map (made author) points) (record { lane = 1; kind = kind }) answer done.depot after.depot sink sink' status
 
 -- A run of a job: it was done; or the store was not opened, or has no author left, and the cause's line was printed.
 pub data JobRun (kind : JobKind) (before after : Shelves) (sink sink' : SinkView) (status : ℕ) : Type 0 where

@@ -2,7 +2,7 @@
 ghost use Rattle.std.specs.Prelude.{◌≡◌, ◌≤◌, length, drop};
 ghost use Rattle.outside.specs.Views.{sink_view, shelf_view};
 ghost use Rattle.store_run.specs.JobRun.{JobRun, IsKeptAndReported};
-ghost use Rattle.store_run.specs.Opening.{store_limits};
+ghost use Rattle.store_run.specs.Opening.{store_limits, IsLegal};
 
 use crate::fault_lines::refuse;
 use crate::opening::open;
@@ -56,11 +56,12 @@ fn keep_and_report<O: Sink, K: Shelf>(
 ) -> u8
     requires first { first ≤ length state.now.entries }
     requires limits { state.now.limits ≡ store_limits }
-    ensures { IsKeptAndReported first (drop first state.now.entries) job.now answer.now
+    ensures legal { IsLegal state.now }
+    ensures kept { IsKeptAndReported first (drop first state.now.entries) job.now answer.now
         (shelf_view ⟦<K as Shelf>⟧ depot.old) (shelf_view ⟦<K as Shelf>⟧ depot.new)
         (sink_view ⟦<O as Sink>⟧ out.old) (sink_view ⟦<O as Sink>⟧ out.new) result }
 {
-    let added = &state.entries()[first..];
+    let (_, added) = state.entries().split_at(first);
     let kept = append(alloc, depot, added);
     let printed = print_report(alloc, first as u32, added, job, answer, &kept, out);
     status_of_run(status_of(answer), &kept, &printed)
