@@ -1,7 +1,6 @@
 -- Which entries a job adds.
-use Rattle.std.proofs.Common.{◌≡◌, ℕ, ◌≤◌, List, [], ◌∷◌, ◌++◌, map, take, length, Some, None, Vec, refl, sym, ap, ◌∙◌, subst, inl, inr, arith}
+use Rattle.std.proofs.Common.{◌≡◌, ℕ, ◌≤◌, List, [], ◌∷◌, ◌++◌, map, take, length, Option, Some, None, refl, sym, ap, ◌∙◌, subst, inl, inr, arith}
 use Rattle.std.specs.Prelude.{Result, Ok, Err}
-use Rattle.std.specs.declared.alloc.Global.{Global}
 use Rattle.std.proofs.lemmas.List.{append-nil, length-take}
 use Rattle.ss_base.specs.declared.object.Object.{Object}
 use Rattle.journal_entry.specs.declared.entry.Entry.{Entry}
@@ -17,7 +16,7 @@ use Rattle.store_core.specs.declared.fault.NameFault.TheVariants as name
 use Rattle.store_core.specs.declared.fault.PointFault.{PointFault}
 use Rattle.store_core.specs.declared.fault.PointFault.TheVariants as full
 use Rattle.store_core.specs.View.{StateView, past_of, made}
-use Rattle.store_core.specs.Answers.{DeleteAnswer, StatAnswer, ReclaimAnswer}
+use Rattle.store_core.specs.Answers.{DeleteAnswer, StatAnswer}
 use Rattle.restore.specs.Copies.{Shelves}
 use Rattle.job_script.specs.declared.job.JobKind.{JobKind}
 use Rattle.job_script.specs.declared.job.JobKind.TheVariants.{Backup, Restore, Delete, Reclaim, Stat}
@@ -27,8 +26,8 @@ use Rattle.job_entries.proofs.EntryLaws.{backup_alone-adds}
 use Rattle.job_entries.proofs.RestoreLaws.{restore_alone-adds}
 use Rattle.job_run.specs.Erasing.{of_erases, ReclaimDone}
 use Rattle.job_run.specs.Erasing.ReclaimDone.{reclaimed, refused}
-use Rattle.job_run.specs.Jobs.{answer_of, BackupDone, RestoreDone, DeleteDone, StatDone, JobDone}
-use Rattle.store_run.specs.JobCalls.{DeleteCalls, StatCalls, ReclaimCalls, JobCalls}
+use Rattle.job_run.specs.Jobs.{answer_of, JobDone}
+use Rattle.store_run.specs.JobCalls.{ReclaimCalls, JobCalls}
 
 -- behind the entries of a state stand those of an author for these points
 abbrev pub Behind : ℕ → StateView → StateView → List Point → Type 0

@@ -1,5 +1,5 @@
 -- Words tell the profile that they name.
-use Rattle.std.proofs.Common.{◌≡◌, ℕ, Bool, true, false, List, [], ◌∷◌, length, refl, sym, ap, ◌∙◌, subst, arith}
+use Rattle.std.proofs.Common.{◌≡◌, ℕ, false, List, [], ◌∷◌, length, refl, sym, ap, ◌∙◌, subst, arith}
 use Rattle.std.specs.Prelude.{String}
 use Rattle.std.specs.declared.alloc.Global.{Global}
 use Rattle.std.proofs.lemmas.Bool.{false≢true}
@@ -9,7 +9,7 @@ use Rattle.job_script.specs.declared.job.JobKind.{JobKind}
 use Rattle.job_script.specs.declared.job.JobKind.TheVariants.{Backup, Restore, Delete, Reclaim, Stat}
 use Rattle.store_run.specs.declared.command.Command.{Command}
 use Rattle.store_run.specs.declared.command.Command.TheVariants.{Names, Segments, Init, Journal, Job}
-use Rattle.store_run.specs.Command.{texts, profile_word, words_of, IsCommand, has_dash, IsUsage}
+use Rattle.store_run.specs.Command.{texts, profile_word, words_of, IsCommand, has_dash, IsUsage, IsNoJob}
 
 abbrev first : List ℕ → ℕ
 first [] = 0
@@ -62,6 +62,10 @@ plain_journal = refl
 pub not_usage : (words : List (String Global)) (command : Command) → IsUsage words → IsCommand command → texts words ≡ words_of command → has_dash (texts words) ≡ false → ⊥
 not_usage words command usage is asked plain = false≢true (sym plain ∙ usage command is asked)
 
+-- the words of a job are not those of no job
+pub not_none : (words : List (String Global)) (kind : JobKind) → IsNoJob (texts words) → IsCommand (Job kind) → texts words ≡ words_of (Job kind) → has_dash (texts words) ≡ false → ⊥
+not_none words kind none is asked plain = false≢true (sym plain ∙ none kind is asked)
+
 pub plain_of : (words : List (String Global)) (command : Command) → texts words ≡ words_of command → has_dash (words_of command) ≡ false → has_dash (texts words) ≡ false
 plain_of words command asked plain = subst (λ ws. has_dash ws ≡ false) (sym asked) plain
 
@@ -83,34 +87,6 @@ by_letter xs ys apart is = apart (ap letter is)
 
 by_count : (xs ys : List (List ℕ)) → (length xs ≡ length ys → ⊥) → xs ≡ ys → ⊥
 by_count xs ys apart is = apart (ap length is)
-
-pub names_no_job : (profile : Profile) (kind : JobKind) → words_of (Names profile) ≡ words_of (Job kind) → ⊥
-names_no_job profile (Backup input name) is = by_letter (words_of (Names profile)) (words_of (Job (Backup input name))) (λ e. omega (arith, e)) is
-names_no_job profile (Restore name output) is = by_letter (words_of (Names profile)) (words_of (Job (Restore name output))) (λ e. omega (arith, e)) is
-names_no_job profile (Delete name) is = by_letter (words_of (Names profile)) (words_of (Job (Delete name))) (λ e. omega (arith, e)) is
-names_no_job profile Reclaim is = by_letter (words_of (Names profile)) (words_of (Job Reclaim)) (λ e. omega (arith, e)) is
-names_no_job profile Stat is = by_letter (words_of (Names profile)) (words_of (Job Stat)) (λ e. omega (arith, e)) is
-
-pub segments_no_job : (profile : Profile) (kind : JobKind) → words_of (Segments profile) ≡ words_of (Job kind) → ⊥
-segments_no_job profile (Backup input name) is = by_letter (words_of (Segments profile)) (words_of (Job (Backup input name))) (λ e. omega (arith, e)) is
-segments_no_job profile (Restore name output) is = by_letter (words_of (Segments profile)) (words_of (Job (Restore name output))) (λ e. omega (arith, e)) is
-segments_no_job profile (Delete name) is = by_letter (words_of (Segments profile)) (words_of (Job (Delete name))) (λ e. omega (arith, e)) is
-segments_no_job profile Reclaim is = by_letter (words_of (Segments profile)) (words_of (Job Reclaim)) (λ e. omega (arith, e)) is
-segments_no_job profile Stat is = by_count (words_of (Segments profile)) (words_of (Job Stat)) (λ e. omega (arith, e)) is
-
-pub init_no_job : (profile : Profile) (kind : JobKind) → words_of (Init profile) ≡ words_of (Job kind) → ⊥
-init_no_job profile (Backup input name) is = by_letter (words_of (Init profile)) (words_of (Job (Backup input name))) (λ e. omega (arith, e)) is
-init_no_job profile (Restore name output) is = by_letter (words_of (Init profile)) (words_of (Job (Restore name output))) (λ e. omega (arith, e)) is
-init_no_job profile (Delete name) is = by_letter (words_of (Init profile)) (words_of (Job (Delete name))) (λ e. omega (arith, e)) is
-init_no_job profile Reclaim is = by_letter (words_of (Init profile)) (words_of (Job Reclaim)) (λ e. omega (arith, e)) is
-init_no_job profile Stat is = by_letter (words_of (Init profile)) (words_of (Job Stat)) (λ e. omega (arith, e)) is
-
-pub journal_no_job : (kind : JobKind) → words_of Journal ≡ words_of (Job kind) → ⊥
-journal_no_job (Backup input name) is = by_letter (words_of Journal) (words_of (Job (Backup input name))) (λ e. omega (arith, e)) is
-journal_no_job (Restore name output) is = by_letter (words_of Journal) (words_of (Job (Restore name output))) (λ e. omega (arith, e)) is
-journal_no_job (Delete name) is = by_letter (words_of Journal) (words_of (Job (Delete name))) (λ e. omega (arith, e)) is
-journal_no_job Reclaim is = by_letter (words_of Journal) (words_of (Job Reclaim)) (λ e. omega (arith, e)) is
-journal_no_job Stat is = by_letter (words_of Journal) (words_of (Job Stat)) (λ e. omega (arith, e)) is
 
 -- the words of a job tell it
 pub same_job : (a b : JobKind) → words_of (Job a) ≡ words_of (Job b) → a ≡ b

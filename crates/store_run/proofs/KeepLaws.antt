@@ -1,6 +1,6 @@
 -- What is kept of a run in the journal.
-use Rattle.std.proofs.Common.{◌≡◌, ℕ, suc, ◌+◌, ◌≤◌, Bool, true, leb, leb-true, arith, List, [], ◌∷◌, ◌++◌, length, take, drop, reverse, All, refl, sym, ap, ◌∙◌, subst, inl, inr, take-append-drop, lit≤}
-use Rattle.std.specs.Prelude.{MatchResult, OnOk, OnErr, Result, Ok, Err}
+use Rattle.std.proofs.Common.{◌≡◌, ℕ, suc, ◌+◌, ◌≤◌, Bool, true, leb, leb-true, arith, List, [], ◌∷◌, length, take, drop, All, refl, sym, subst, inl, inr, take-append-drop, lit≤}
+use Rattle.std.specs.Prelude.{MatchResult, OnOk, OnErr, Ok, Err}
 use Rattle.std.proofs.lemmas.List.{reverse-reverse, length-reverse}
 use Rattle.std.proofs.lemmas.Bool.{and_parts}
 use Rattle.ss_base.proofs.MemberLaws.{In, in_append_right, reverse_in, All-from_in}

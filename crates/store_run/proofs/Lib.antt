@@ -11,3 +11,4 @@ mod StoreLaws
 mod ReportLaws
 mod KeepLaws
 mod CallLaws
+mod OpenLaws

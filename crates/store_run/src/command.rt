@@ -1,6 +1,6 @@
 // The words of a run.
 ghost use Rattle.std.specs.Prelude.{◌≡◌, ◌≢◌, false, IsSome, IfSome, IfNone};
-ghost use Rattle.store_run.specs.Command.{profile_word, texts, words_of, begins_with_dash, has_dash, IsUsage};
+ghost use Rattle.store_run.specs.Command.{profile_word, texts, words_of, IsCommand, begins_with_dash, has_dash, IsUsage};
 ghost use Rattle.ss_base.specs.declared.profile.Profile.{Profile};
 
 use job_script::{JobKind, PathText};
@@ -24,6 +24,7 @@ pub enum Command {
 /// The command with these words. `None` comes exactly where no command has them, or one of them begins with `-`.
 pub fn command_of(words: &[String]) -> Option<Command>
     ensures found { IfSome result (λ command. texts words.now ≡ words_of command) }
+    ensures within { IfSome result IsCommand }
     ensures plain { IsSome result → has_dash (texts words.now) ≡ false }
     ensures none { IfNone result (IsUsage words.now) }
 {

@@ -1,5 +1,3 @@
-use Rattle.std.proofs.Common.{◌≡◌}
-use Rattle.store_run.specs.JobRun.{run_status}
 use Rattle.store_run.proofs.ReportLaws.{alone}
 use Rattle.store_run.proofs.reporting.status_of_run.Goals as goal
 
