@@ -51,6 +51,19 @@ module _ (objects : Objects) where
     pub kept_is : one.kept ≡ kept
     pub split : bytes_of_manifests manifests ≡ bytes_of_manifests done ++ (bytes_of_chunks one.chunks ++ bytes_of_manifests later)
 
+  -- behind one more manifest, whose chunks have the same bytes
+  next_more : (other after : ShelfView) (x m : ManifestRead) (done manifests : List ManifestRead) (kept : KeptView) → bytes_of_chunks m.chunks ≡ bytes_of_chunks x.chunks
+      → Next after done manifests kept → Next other (x ∷ done) (m ∷ manifests) kept
+  next_more other after x m done manifests kept bytes next = record {
+    one = next.one;
+    later = next.later;
+    at = next.at;
+    held = next.held;
+    read = next.read;
+    kept_is = next.kept_is;
+    split = (λ i. bytes i ++ next.split i) ∙ sym (append_assoc (bytes_of_chunks x.chunks) (bytes_of_manifests done) (bytes_of_chunks next.one.chunks ++ bytes_of_manifests next.later));
+  }
+
   next : (depot other : ShelfView) (done manifests : List ManifestRead) (kept : KeptView) (rest : List KeptView)
       → AreManifestsRead depot done → depot.held ≡ Some objects → AreManifestsRead other manifests → other.held ≡ Some objects
       → map (λ (m : ManifestRead). m.kept) manifests ≡ map (λ (m : ManifestRead). m.kept) done ++ kept ∷ rest → Next other done manifests kept
@@ -62,19 +75,11 @@ module _ (objects : Objects) where
   next depot other (x ∷ done) (m ∷ ms) kept rest are held others other_held same =
       let first : m.kept ≡ x.kept = cc in
       let tail : map (λ (n : ManifestRead). n.kept) ms ≡ map (λ (n : ManifestRead). n.kept) done ++ kept ∷ rest = cc in
-      let after = next (after_manifest depot x) (after_manifest other m) done ms kept rest are.1 ((manifest_unchanged depot x).only.held ∙ held) others.1 ((manifest_unchanged other m).only.held ∙ other_held) tail in
       let listed = same_listed depot other x.kept x.manifest m are.0.loaded held others.0 other_held first in
       let bytes : bytes_of_chunks m.chunks ≡ bytes_of_chunks x.chunks =
       manifest_bytes other objects m others.0 other_held ∙ ap (map (chunk_at objects)) listed ∙ sym (manifest_bytes depot objects x are.0 held) in
-      record {
-        one = after.one;
-        later = after.later;
-        at = after.at;
-        held = after.held;
-        read = after.read;
-        kept_is = after.kept_is;
-        split = (λ i. bytes i ++ after.split i) ∙ sym (append_assoc (bytes_of_chunks x.chunks) (bytes_of_manifests done) (bytes_of_chunks after.one.chunks ++ bytes_of_manifests after.later));
-      }
+      next_more other (after_manifest other m) x m done ms kept bytes
+      (next (after_manifest depot x) (after_manifest other m) done ms kept rest are.1 ((manifest_unchanged depot x).only.held ∙ held) others.1 ((manifest_unchanged other m).only.held ∙ other_held) tail)
 
   -- ---- where it stopped
 
