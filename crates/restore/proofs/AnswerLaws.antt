@@ -1,8 +1,7 @@
 -- Answers of a restore, and what shows of them.
-use Rattle.std.proofs.Common.{◌≡◌, ◌≢◌, ◌≤◌, ℕ, ◌+◌, Bool, true, false, List, [], ◌∷◌, ◌++◌, length, refl, sym, ap, ◌∙◌, subst, Option, None, Some, IfSome, inl, inr, arith, append_assoc}
+use Rattle.std.proofs.Common.{◌≡◌, ℕ, Bool, false, List, [], sym, ap, ◌∙◌, subst, Option, None, Some, IfSome}
 use Rattle.std.specs.Prelude.{Result, Ok, Err}
 use Rattle.std.specs.FinMap.{contains_key}
-use Rattle.std.specs.List.{concat}
 use Rattle.store_core.specs.declared.values.Looked.{Looked}
 use Rattle.store_core.specs.View.{StateView, KeptView, made, Adds}
 use Rattle.store_core.specs.Answers.{LookAnswer}

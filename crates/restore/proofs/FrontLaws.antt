@@ -1,6 +1,6 @@
 -- What was copied before copying stopped, against what all manifests give.
-use Rattle.std.proofs.Common.{◌≡◌, ℕ, ◌*◌, List, [], ◌∷◌, ◌++◌, map, refl, sym, ap, ◌∙◌, subst, Option, Some, inl, inr, append_assoc}
-use Rattle.std.specs.Prelude.{Result, Ok, Err}
+use Rattle.std.proofs.Common.{◌≡◌, ℕ, ◌*◌, List, [], ◌∷◌, ◌++◌, map, refl, sym, ap, ◌∙◌, subst, Some, inl, inr, append_assoc}
+use Rattle.std.specs.Prelude.{Err}
 use Rattle.std.specs.List.{concat, zip}
 use Rattle.std.proofs.lemmas.List.{map-append}
 use Rattle.std.proofs.lemmas.List.Folds.{concat-append}
@@ -9,15 +9,15 @@ use Rattle.ss_base.specs.ObjectName.{object_text}
 use Rattle.manifest_codec.specs.declared.manifest.Manifest.{Manifest}
 use Rattle.manifest_codec.proofs.TextLaws.{same_manifest}
 use Rattle.store_core.specs.View.{KeptView}
-use Rattle.outside.specs.Shelf.{Objects, with_object, AppendLeaves}
+use Rattle.outside.specs.Shelf.{Objects, AppendLeaves}
 use Rattle.outside.specs.Views.{ShelfView}
 use Rattle.outside.proofs.ObjectLaws.{with_added-with_object}
 use Rattle.depot.specs.declared.fault.RestoreFault.{RestoreFault}
 use Rattle.depot.specs.Loading.{IsLoaded}
 use Rattle.restore.specs.Reads.{Listed, listed_by, ChunkRead, after_chunks, ManifestRead, after_load, after_manifest, after_manifests, IsManifestRead, AreManifestsRead, bytes_of_chunks, bytes_of_manifests, chunk_at, text_at, text_of}
-use Rattle.restore.specs.Output.{after_making, after_adding, with_output, HoldsFront}
+use Rattle.restore.specs.Output.{with_output, HoldsFront}
 use Rattle.restore.specs.Output.HoldsFront.{not_made as unmade, holds}
-use Rattle.restore.specs.Copies.{Shelves, StopsAtChunk, StopsInChunks, StopsAtManifest, StopsInManifests, StreamCopy}
+use Rattle.restore.specs.Copies.{Shelves, StopsAtChunk, StopsAtManifest, StreamCopy}
 use Rattle.restore.specs.Copies.StopsAtChunk.{not_read, not_added}
 use Rattle.restore.specs.Copies.StopsAtManifest.{not_loaded, in_chunks}
 use Rattle.restore.specs.Copies.StreamCopy.{not_made, made}
