@@ -10,3 +10,5 @@ mod stream;
 
 pub use alone::backup_solo;
 pub use caller::backup;
+pub use segment_reader::{NextFault, Work, next_segment};
+pub use segment_store::{load_champions, store_segment};
