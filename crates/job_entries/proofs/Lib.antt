@@ -1,0 +1,9 @@
+pub mod InterleavedLaws
+pub mod AddsLaws
+pub mod StepLaws
+pub mod SegmentLaws
+pub mod BackupLaws
+pub mod PointLaws
+pub mod InputLaws
+pub mod RestoreLaws
+pub mod EntryLaws
