@@ -22,9 +22,19 @@ worse-assoc (Some Fault) (Some Fault) (Some c) = refl
 -- one erase more
 pub erased-more : (objects : List Object) (object : Object) (before now after : ShelfView) (met one : Option Trouble) → AreErased before now objects met → IsErased now after object one
     → AreErased before after (objects ++ object ∷ []) (worse met one)
-erased-more [] object before now after met one done erased =
-    (after, one, None, subst (λ (shelf : ShelfView). IsErased shelf after object one) done.0 erased, (refl, refl),
-    ap (λ (m : Option Trouble). worse m one) done.1 ∙ worse-none one)
-erased-more (first ∷ objects) object before now after met one done erased =
-    (done.0, done.1, worse done.2 one, done.3, erased-more objects object done.0 now after done.2 one done.4 erased,
-    ap (λ (m : Option Trouble). worse m one) done.5 ∙ worse-assoc done.1 done.2 one)
+erased-more [] object before now after met one done erased = (
+  after,
+  one,
+  None,
+  subst (λ (shelf : ShelfView). IsErased shelf after object one) done.0 erased,
+  (refl, refl),
+  ap (λ (m : Option Trouble). worse m one) done.1 ∙ worse-none one,
+)
+erased-more (first ∷ objects) object before now after met one done erased = (
+  done.0,
+  done.1,
+  worse done.2 one,
+  done.3,
+  erased-more objects object done.0 now after done.2 one done.4 erased,
+  ap (λ (m : Option Trouble). worse m one) done.5 ∙ worse-assoc done.1 done.2 one,
+)

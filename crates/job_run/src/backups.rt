@@ -25,7 +25,15 @@ pub(crate) fn run_backup<const L: usize, const M: usize, F: Shelf, K: Shelf>(
         (record { files = shelf_view ⟦<F as Shelf>⟧ files.new; depot = shelf_view ⟦<K as Shelf>⟧ depot.new }) result }
 {
     let mut depot = Depot::over(depot);
-    match backup_solo(alloc, state, author, files, input.as_str(), name, &mut depot) {
+    match backup_solo(
+        alloc,
+        state,
+        author,
+        files,
+        input.as_str(),
+        name,
+        &mut depot,
+    ) {
         Ok(_) => JobAnswer::Ok,
         Err(fault) => JobAnswer::Backup(fault),
     }
