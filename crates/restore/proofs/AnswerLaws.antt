@@ -1,8 +1,7 @@
 -- Answers of a restore, and what shows of them.
-use Rattle.std.proofs.Common.{◌≡◌, ◌≢◌, ◌≤◌, ℕ, ◌+◌, Bool, true, false, List, [], ◌∷◌, ◌++◌, length, refl, sym, ap, ◌∙◌, subst, Option, None, Some, IfSome, inl, inr, arith, append_assoc}
+use Rattle.std.proofs.Common.{◌≡◌, ℕ, Bool, false, List, [], sym, ap, ◌∙◌, subst, Option, None, Some, IfSome}
 use Rattle.std.specs.Prelude.{Result, Ok, Err}
 use Rattle.std.specs.FinMap.{contains_key}
-use Rattle.std.specs.List.{concat}
 use Rattle.store_core.specs.declared.values.Looked.{Looked}
 use Rattle.store_core.specs.View.{StateView, KeptView, made, Adds}
 use Rattle.store_core.specs.Answers.{LookAnswer}
@@ -38,7 +37,7 @@ copied_from output before files after lent kepts found result same items is copy
 
 -- ---- the calls of a state
 
-pub solo_calls : (standings champions author author' : ℕ) (name : List ℕ) (old new : StateView) (calls : Calls)
+solo_calls : (standings champions author author' : ℕ) (name : List ℕ) (old new : StateView) (calls : Calls)
     → CallsOf (λ came. came ≡ []) standings champions (record { author = author; seen = old }) name (record { author = author'; seen = new }) calls
     → StateCalls old author name new calls
 solo_calls standings champions author author' name old new no_call same = ap (λ (v : IdleView). v.seen) same
@@ -57,9 +56,20 @@ solo_calls standings champions author author' name old new (looked_and_done foun
           (subst (λ (t : StateView). Adds t new (made reading.author (Done reading.looked.reader))) (own_turn standings champions reading.author reading.seen ending.turn ending.is_turn) ending.done));
     }
 
-pub with_calls : (calls others : Calls → Type 0) (output : List ℕ) (before after : Shelves) (result : Result ℕ RestoreFault)
+with_calls : (calls others : Calls → Type 0) (output : List ℕ) (before after : Shelves) (result : Result ℕ RestoreFault)
     → ((c : Calls) → calls c → others c) → RestoreAnswer calls output before after result → RestoreAnswer others output before after result
 with_calls calls others output before after result each (not_asked why is made_calls failed same) = not_asked why is (each no_call made_calls) failed same
 with_calls calls others output before after result each (exists is made_calls there same) = exists is (each no_call made_calls) there same
 with_calls calls others output before after result each (not_looked why is made_calls absent same) = not_looked why is (each (refused why) made_calls) absent same
 with_calls calls others output before after result each (copied found made_calls absent copy) = copied found (each (looked_and_done found) made_calls) absent copy
+
+-- what the one caller of a state did
+abbrev pub OwnCalls : ℕ → ℕ → ℕ → ℕ → List ℕ → StateView → StateView → Calls → Type 0
+OwnCalls standings champions author author' name old new calls =
+    CallsOf (λ came. came ≡ []) standings champions (record { author = author; seen = old }) name (record { author = author'; seen = new }) calls
+
+pub solo_answer : (standings champions author author' : ℕ) (name : List ℕ) (old new : StateView) (output : List ℕ) (before after : Shelves) (result : Result ℕ RestoreFault)
+    → RestoreAnswer (OwnCalls standings champions author author' name old new) output before after result → RestoreAnswer (StateCalls old author name new) output before after result
+solo_answer standings champions author author' name old new output before after result answer =
+    with_calls (OwnCalls standings champions author author' name old new) (StateCalls old author name new) output before after result
+    (solo_calls standings champions author author' name old new) answer

@@ -1,5 +1,5 @@
 -- Copies of chunks and of manifests, one behind another, and where copying stops.
-use Rattle.std.proofs.Common.{◌≡◌, ℕ, ◌+◌, ◌-◌, ◌^◌, ◌<◌, ◌≤◌, min, List, [], ◌∷◌, ◌++◌, length, get_or, take, drop, map, refl, sym, ap, ◌∙◌, subst, arith, append_assoc, take-append-drop}
+use Rattle.std.proofs.Common.{◌≡◌, ℕ, ◌+◌, ◌-◌, ◌^◌, ◌<◌, ◌≤◌, min, List, [], ◌∷◌, ◌++◌, length, get_or, take, drop, refl, sym, ap, ◌∙◌, subst, arith, append_assoc, take-append-drop}
 use Rattle.std.specs.Prelude.{Result, Ok, Err}
 use Rattle.std.proofs.lemmas.List.{take_more, map-append}
 use Rattle.std.proofs.lemmas.Slice.Zip.{length-zip, get_or-zip}
@@ -12,8 +12,8 @@ use Rattle.depot.specs.declared.fault.RestoreFault.{RestoreFault}
 use Rattle.depot.specs.Calls.{after_append}
 use Rattle.depot.specs.Chunks.{IsChunkRead}
 use Rattle.depot.specs.Loading.{IsLoaded}
-use Rattle.restore.specs.Reads.{Listed, listed_by, ChunkRead, after_chunk, after_chunks, AreChunksRead, ManifestRead, after_load, after_manifest, after_manifests, IsManifestRead, AreManifestsRead, bytes_of_chunks, bytes_of_manifests}
-use Rattle.restore.specs.Output.{after_making, after_adding}
+use Rattle.restore.specs.Reads.{Listed, listed_by, ChunkRead, after_chunk, after_chunks, AreChunksRead, ManifestRead, after_load, after_manifest, after_manifests, IsManifestRead, bytes_of_chunks, bytes_of_manifests}
+use Rattle.restore.specs.Output.{after_adding}
 use Rattle.restore.specs.Copies.{Shelves, counted, total, IsChunkCopied, AreChunksCopied, IsManifestCopied, AreManifestsCopied, StopsAtChunk, StopsInChunks, StopsAtManifest, StopsInManifests, ChunksCopy, ManifestCopy}
 use Rattle.restore.specs.Copies.StopsAtManifest.{in_chunks}
 use Rattle.restore.proofs.ReadLaws.{after_chunks-push, AreChunksRead-push, after_manifests-push, AreManifestsRead-push, bytes_of-push, after_adding-append, total-append, total-one}

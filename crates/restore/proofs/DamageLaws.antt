@@ -1,5 +1,5 @@
 -- The reads of a restore that stopped at damage.
-use Rattle.std.proofs.Common.{◌≡◌, ℕ, zero, ◌<◌, List, [], ◌∷◌, ◌++◌, map, flat_map, refl, sym, ap, ◌∙◌, subst, Option, None, Some, inl, inr, arith, append_assoc, Contains}
+use Rattle.std.proofs.Common.{◌≡◌, ℕ, zero, List, [], ◌∷◌, ◌++◌, map, flat_map, refl, sym, ap, ◌∙◌, subst, Option, None, Some, arith, append_assoc, Contains}
 use Rattle.std.specs.Prelude.{Result, Ok, Err}
 use Rattle.std.specs.Option.{option_map}
 use Rattle.std.proofs.lemmas.List.{append-nil}
@@ -22,8 +22,7 @@ use Rattle.depot.specs.Chunks.{ChunkAnswer}
 use Rattle.depot.specs.Loading.{IsLoaded, LoadAnswer}
 use Rattle.restore.specs.Faults.{output_fault, load_fault, chunk_fault}
 use Rattle.restore.specs.Reads.{Listed, listed_by, ChunkRead, after_chunk, after_chunks, ManifestRead, after_load, after_manifest, after_manifests, text_of}
-use Rattle.restore.specs.Output.{after_making}
-use Rattle.restore.specs.Copies.{Shelves, StopsAtChunk, StopsInChunks, StopsAtManifest, StopsInManifests, StreamCopy}
+use Rattle.restore.specs.Copies.{Shelves, StopsAtChunk, StopsInChunks, StopsAtManifest, StreamCopy}
 use Rattle.restore.specs.Copies.StopsAtChunk.{not_read, not_added}
 use Rattle.restore.specs.Copies.StopsAtManifest.{not_loaded, in_chunks}
 use Rattle.restore.specs.Copies.StreamCopy.{not_made, made}

@@ -1,6 +1,6 @@
 -- What was copied before copying stopped, against what all manifests give.
-use Rattle.std.proofs.Common.{◌≡◌, ℕ, ◌*◌, List, [], ◌∷◌, ◌++◌, map, refl, sym, ap, ◌∙◌, subst, Option, Some, inl, inr, append_assoc}
-use Rattle.std.specs.Prelude.{Result, Ok, Err}
+use Rattle.std.proofs.Common.{◌≡◌, ℕ, ◌*◌, List, [], ◌∷◌, ◌++◌, map, refl, sym, ap, ◌∙◌, subst, Some, inl, inr, append_assoc}
+use Rattle.std.specs.Prelude.{Err}
 use Rattle.std.specs.List.{concat, zip}
 use Rattle.std.proofs.lemmas.List.{map-append}
 use Rattle.std.proofs.lemmas.List.Folds.{concat-append}
@@ -9,15 +9,15 @@ use Rattle.ss_base.specs.ObjectName.{object_text}
 use Rattle.manifest_codec.specs.declared.manifest.Manifest.{Manifest}
 use Rattle.manifest_codec.proofs.TextLaws.{same_manifest}
 use Rattle.store_core.specs.View.{KeptView}
-use Rattle.outside.specs.Shelf.{Objects, with_object, AppendLeaves}
+use Rattle.outside.specs.Shelf.{Objects, AppendLeaves}
 use Rattle.outside.specs.Views.{ShelfView}
 use Rattle.outside.proofs.ObjectLaws.{with_added-with_object}
 use Rattle.depot.specs.declared.fault.RestoreFault.{RestoreFault}
 use Rattle.depot.specs.Loading.{IsLoaded}
 use Rattle.restore.specs.Reads.{Listed, listed_by, ChunkRead, after_chunks, ManifestRead, after_load, after_manifest, after_manifests, IsManifestRead, AreManifestsRead, bytes_of_chunks, bytes_of_manifests, chunk_at, text_at, text_of}
-use Rattle.restore.specs.Output.{after_making, after_adding, with_output, HoldsFront}
+use Rattle.restore.specs.Output.{with_output, HoldsFront}
 use Rattle.restore.specs.Output.HoldsFront.{not_made as unmade, holds}
-use Rattle.restore.specs.Copies.{Shelves, StopsAtChunk, StopsInChunks, StopsAtManifest, StopsInManifests, StreamCopy}
+use Rattle.restore.specs.Copies.{Shelves, StopsAtChunk, StopsAtManifest, StreamCopy}
 use Rattle.restore.specs.Copies.StopsAtChunk.{not_read, not_added}
 use Rattle.restore.specs.Copies.StopsAtManifest.{not_loaded, in_chunks}
 use Rattle.restore.specs.Copies.StreamCopy.{not_made, made}
@@ -51,6 +51,19 @@ module _ (objects : Objects) where
     pub kept_is : one.kept ≡ kept
     pub split : bytes_of_manifests manifests ≡ bytes_of_manifests done ++ (bytes_of_chunks one.chunks ++ bytes_of_manifests later)
 
+  -- behind one more manifest, whose chunks have the same bytes
+  next_more : (other after : ShelfView) (x m : ManifestRead) (done manifests : List ManifestRead) (kept : KeptView) → bytes_of_chunks m.chunks ≡ bytes_of_chunks x.chunks
+      → Next after done manifests kept → Next other (x ∷ done) (m ∷ manifests) kept
+  next_more other after x m done manifests kept bytes next = record {
+    one = next.one;
+    later = next.later;
+    at = next.at;
+    held = next.held;
+    read = next.read;
+    kept_is = next.kept_is;
+    split = (λ i. bytes i ++ next.split i) ∙ sym (append_assoc (bytes_of_chunks x.chunks) (bytes_of_manifests done) (bytes_of_chunks next.one.chunks ++ bytes_of_manifests next.later));
+  }
+
   next : (depot other : ShelfView) (done manifests : List ManifestRead) (kept : KeptView) (rest : List KeptView)
       → AreManifestsRead depot done → depot.held ≡ Some objects → AreManifestsRead other manifests → other.held ≡ Some objects
       → map (λ (m : ManifestRead). m.kept) manifests ≡ map (λ (m : ManifestRead). m.kept) done ++ kept ∷ rest → Next other done manifests kept
@@ -62,19 +75,11 @@ module _ (objects : Objects) where
   next depot other (x ∷ done) (m ∷ ms) kept rest are held others other_held same =
       let first : m.kept ≡ x.kept = cc in
       let tail : map (λ (n : ManifestRead). n.kept) ms ≡ map (λ (n : ManifestRead). n.kept) done ++ kept ∷ rest = cc in
-      let after = next (after_manifest depot x) (after_manifest other m) done ms kept rest are.1 ((manifest_unchanged depot x).only.held ∙ held) others.1 ((manifest_unchanged other m).only.held ∙ other_held) tail in
       let listed = same_listed depot other x.kept x.manifest m are.0.loaded held others.0 other_held first in
       let bytes : bytes_of_chunks m.chunks ≡ bytes_of_chunks x.chunks =
       manifest_bytes other objects m others.0 other_held ∙ ap (map (chunk_at objects)) listed ∙ sym (manifest_bytes depot objects x are.0 held) in
-      record {
-        one = after.one;
-        later = after.later;
-        at = after.at;
-        held = after.held;
-        read = after.read;
-        kept_is = after.kept_is;
-        split = (λ i. bytes i ++ after.split i) ∙ sym (append_assoc (bytes_of_chunks x.chunks) (bytes_of_manifests done) (bytes_of_chunks after.one.chunks ++ bytes_of_manifests after.later));
-      }
+      next_more other (after_manifest other m) x m done ms kept bytes
+      (next (after_manifest depot x) (after_manifest other m) done ms kept rest are.1 ((manifest_unchanged depot x).only.held ∙ held) others.1 ((manifest_unchanged other m).only.held ∙ other_held) tail)
 
   -- ---- where it stopped
 

@@ -1,5 +1,5 @@
 -- What was read, against what manifests list and what a depot holds.
-use Rattle.std.proofs.Common.{◌≡◌, ℕ, ◌*◌, List, [], ◌∷◌, ◌++◌, map, refl, sym, ap, ◌∙◌, subst, Option, None, Some, IfSome}
+use Rattle.std.proofs.Common.{◌≡◌, ℕ, ◌*◌, List, [], ◌∷◌, ◌++◌, map, refl, sym, ap, ◌∙◌, subst, Option, Some, IfSome}
 use Rattle.std.proofs.lemmas.List.{map-append}
 use Rattle.ss_base.specs.declared.object.Object.TheVariants.{Manifest as ManifestObject}
 use Rattle.ss_base.specs.ObjectName.{object_text}

@@ -4,7 +4,7 @@ use Rattle.std.specs.List.{concat}
 use Rattle.std.specs.Option.{option_map}
 use Rattle.std.proofs.lemmas.List.{append-nil, map-append}
 use Rattle.std.proofs.lemmas.List.Folds.{concat-append}
-use Rattle.outside.specs.Shelf.{Objects, Written, with_object, with_added, write_of, one_more}
+use Rattle.outside.specs.Shelf.{Written, with_object, write_of, one_more}
 use Rattle.outside.specs.Views.{ShelfView}
 use Rattle.outside.proofs.ObjectLaws.{with_added-with_object}
 use Rattle.depot.specs.Calls.{after_append}

@@ -1,9 +1,8 @@
 -- What a caller and a state know of a reading.
-use Rattle.std.proofs.Common.{◌≡◌, ℕ, ◌+◌, ◌<◌, Bool, true, false, List, [], ◌∷◌, ◌++◌, reverse, Option, Some, None, Ok, Err, refl, sym, ap, ◌∙◌, subst, inl, inr, arith}
-use Rattle.std.specs.List.{find}
+use Rattle.std.proofs.Common.{◌≡◌, ℕ, ◌+◌, true, false, List, [], ◌∷◌, ◌++◌, Option, Some, None, refl, sym, ap, ◌∙◌, subst, inl, inr, arith}
 use Rattle.std.specs.Option.{option_map}
 use Rattle.std.proofs.lemmas.Bool.{false≢true, both_ways, and_parts, false_from_ne_true, eq-eqb, eqb-true}
-use Rattle.std.proofs.lemmas.List.{append-nil, reverse-append}
+use Rattle.std.proofs.lemmas.List.{append-nil}
 use Rattle.journal_entry.specs.declared.entry.Entry.{Entry}
 use Rattle.journal_entry.specs.declared.entry.Seen.{Seen}
 use Rattle.journal_entry.specs.declared.entry.Point.{Point}
@@ -15,12 +14,10 @@ use Rattle.history_laws.proofs.Allowed.{step}
 use Rattle.history_laws.proofs.SessionLaws.{has_none, has_now, has_older, has_cases, has_not}
 use Rattle.history_laws.proofs.BegunLaws.{looked_below}
 use Rattle.history_laws.proofs.EndLaws.{reading_parts, reading_from}
-use Rattle.store_core.specs.declared.values.Looked.{Looked}
-use Rattle.store_core.specs.View.{StateView, past_of, made, Adds}
-use Rattle.store_core.specs.Answers.{LookAnswer}
+use Rattle.store_core.specs.View.{StateView, past_of, made}
 use Rattle.history_calls.specs.Tokens.{IdleView, ReadingView}
-use Rattle.history_calls.specs.Turn.{IsTurn, AtTurn}
-use Rattle.history_calls.specs.ReadingSteps.{CanEnd, HasLooked, HasNotLooked, HasEnded}
+use Rattle.history_calls.specs.Turn.{IsTurn}
+use Rattle.history_calls.specs.ReadingSteps.{CanEnd, HasLooked}
 use Rattle.history_calls.proofs.TurnLaws.{past_added}
 
 -- ---- a reading that begins

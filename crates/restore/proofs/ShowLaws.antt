@@ -1,5 +1,5 @@
 -- What shows of a restore.
-use Rattle.std.proofs.Common.{◌≡◌, ◌≢◌, ◌≤◌, ℕ, ◌+◌, List, [], ◌∷◌, ◌++◌, length, refl, sym, ap, ◌∙◌, subst, inl, inr, arith, ◌⊎◌}
+use Rattle.std.proofs.Common.{◌≡◌, ◌≢◌, ◌≤◌, ℕ, ◌+◌, List, ◌++◌, refl, sym, ap, ◌∙◌, subst, inl, inr}
 use Rattle.std.specs.Prelude.{Result, Ok, Err}
 use Rattle.std.specs.List.{concat}
 use Rattle.ss_base.specs.declared.name.Name.{Name}
@@ -7,7 +7,7 @@ use Rattle.store_core.specs.View.{KeptView}
 use Rattle.store_core.specs.declared.fault.NameFault.{NameFault}
 use Rattle.store_core.specs.declared.fault.NameFault.TheVariants as name
 use Rattle.outside.specs.Faults.{Rose}
-use Rattle.outside.specs.Shelf.{with_object, CreateLeaves, AppendLeaves}
+use Rattle.outside.specs.Shelf.{with_object, AppendLeaves}
 use Rattle.outside.specs.Views.{ShelfView, OnlyReads}
 use Rattle.outside.specs.declared.trouble.Trouble.{Trouble}
 use Rattle.outside.specs.declared.trouble.Trouble.TheVariants as shelf
@@ -17,14 +17,14 @@ use Rattle.depot.specs.declared.fault.LoadFault.TheVariants as load
 use Rattle.depot.specs.declared.fault.ReadFault.{ReadFault}
 use Rattle.depot.specs.declared.fault.ReadFault.TheVariants as chunk
 use Rattle.depot.specs.declared.fault.RestoreFault.{RestoreFault}
-use Rattle.depot.specs.declared.fault.RestoreFault.TheVariants.{Exists, DepotFault, Damaged, Memory}
+use Rattle.depot.specs.declared.fault.RestoreFault.TheVariants.{DepotFault, Damaged, Memory}
 use Rattle.depot.specs.Calls.{CountsTrouble, HasRead, HasReadNothing, WantsMemory, HasFailed}
-use Rattle.depot.specs.Chunks.{IsChunkRead, ChunkAnswer}
-use Rattle.depot.specs.Loading.{IsLoaded, LoadAnswer}
+use Rattle.depot.specs.Chunks.{ChunkAnswer}
+use Rattle.depot.specs.Loading.{LoadAnswer}
 use Rattle.restore.specs.Faults.{output_fault, look_fault, load_fault, chunk_fault}
 use Rattle.restore.specs.Reads.{Listed, after_chunks, after_manifests, after_load, bytes_of_chunks, bytes_of_manifests}
-use Rattle.restore.specs.Output.{after_making, after_adding, with_output}
-use Rattle.restore.specs.Copies.{Shelves, counted, AreManifestsCopied, StopsAtChunk, StopsInChunks, StopsAtManifest, StopsInManifests, ManifestsCopy, StreamCopy}
+use Rattle.restore.specs.Output.{after_making, with_output}
+use Rattle.restore.specs.Copies.{Shelves, AreManifestsCopied, StopsAtChunk, StopsAtManifest, StopsInManifests, StreamCopy}
 use Rattle.restore.specs.Copies.StopsAtChunk.{not_read, not_added}
 use Rattle.restore.specs.Copies.StopsAtManifest.{not_loaded, in_chunks}
 use Rattle.restore.specs.Copies.StreamCopy.{not_made, made}

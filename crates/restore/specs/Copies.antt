@@ -1,8 +1,6 @@
 -- Chunks that are copied from the depot to an output, and where copying stops (this project's own).
 use Rattle.std.specs.Prelude.{◌≡◌, ℕ, ◌+◌, ◌-◌, ◌^◌, min, List, [], ◌∷◌, ◌++◌, length, map, Result, Ok, Err}
 use Rattle.std.specs.List.{concat}
-use Rattle.ss_base.specs.declared.ids.Place.{Place}
-use Rattle.ss_base.specs.declared.name.Piece.{Piece}
 use Rattle.manifest_codec.specs.declared.manifest.Manifest.{Manifest}
 use Rattle.store_core.specs.View.{KeptView}
 use Rattle.outside.specs.Shelf.{CreateLeaves, AppendLeaves}

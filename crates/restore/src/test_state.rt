@@ -99,7 +99,7 @@ fn finish(session: u32, containers: u32) -> Entry {
 }
 
 // The state after both streams, within so many entries.
-fn state(alloc: Global, text: Name, limit: u32) -> Result<State<8, 8>, Fail> {
+fn state(alloc: Global, text: Name, limit: u8) -> Result<State<8, 8>, Fail> {
     let choose = Point::Choose {
         session: 0,
         hooks: Items::new(Vec::new(alloc)),
@@ -110,7 +110,7 @@ fn state(alloc: Global, text: Name, limit: u32) -> Result<State<8, 8>, Fail> {
     entries.push(begin(b"e", 1)?)?;
     entries.push(finish(1, 0))?;
     let limits = Limits {
-        entries: limit,
+        entries: u32::from(limit),
         weight: 100,
     };
     let state = State::replay(alloc, Profile::Tiny, limits, entries);
@@ -132,7 +132,7 @@ fn store_of(
     alloc: Global,
     text: &[u8],
     last: u8,
-    limit: u32,
+    limit: u8,
     fails: (u32, u32),
 ) -> Result<Fixture, Fail> {
     let mut depot = MemShelf::new(alloc, vec![in alloc; fails.1]?);

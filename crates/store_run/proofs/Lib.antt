@@ -8,3 +8,7 @@ mod ResultLaws
 mod SoFarLaws
 mod StatusLaws
 mod StoreLaws
+mod ReportLaws
+mod KeepLaws
+mod CallLaws
+mod OpenLaws

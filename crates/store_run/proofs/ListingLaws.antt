@@ -14,7 +14,7 @@ use Rattle.journal_file.proofs.AnswerLaws.{not_bad, one_journal}
 use Rattle.store_core.specs.View.{StateView, rules_of}
 use Rattle.store_core.specs.Replay.{IsFirstIllegal, IsLeast, has_session, has_reading}
 use Rattle.store_run.specs.declared.stop.Stop.{Stop}
-use Rattle.store_run.specs.declared.stop.Stop.TheVariants.{Usage, TooLong, Memory, AlreadyStore, SourceFault, DepotFault, NotStore, BadEntry, IllegalEntry, UnfinishedSession, UnfinishedReading}
+use Rattle.store_run.specs.declared.stop.Stop.TheVariants.{Usage, TooLong, Memory, AlreadyStore, SourceFault, DepotFault, NotStore, BadEntry, IllegalEntry, UnfinishedSession, UnfinishedReading, Callers}
 use Rattle.store_run.specs.EntryLines.{entry_lines}
 use Rattle.store_run.specs.Listing.{JournalAnswer, listed, not_opened, line_failed, line_wanted_memory}
 use Rattle.store_run.specs.Opening.{IsStore, IsJournalOf, IsRefused, IsOpening}
@@ -35,6 +35,7 @@ six_beside (BadEntry place) is = refl
 six_beside (IllegalEntry number) is = refl
 six_beside (UnfinishedSession session) is = refl
 six_beside (UnfinishedReading reader) is = refl
+six_beside Callers is = absurd (omega (arith, is))
 
 -- a run that ends early is not answered by 0
 some_status : (why : Stop) → (1 ≤ status_of why) × (1 ≤ least_status (status_of why ∷ sink_fault ∷ []))
@@ -50,6 +51,7 @@ some_status (BadEntry place) = (omega arith, omega arith)
 some_status (IllegalEntry number) = (omega arith, omega arith)
 some_status (UnfinishedSession session) = (omega arith, omega arith)
 some_status (UnfinishedReading reader) = (omega arith, omega arith)
+some_status Callers = (omega arith, omega arith)
 
 not_zero : (why : Stop) (lines : List ℕ) (sink sink' : SinkView) → Refuses why lines sink sink' 0 → ⊥
 not_zero why lines sink sink' (told is whole same) = omega (arith, is, (some_status why).0)
@@ -103,6 +105,7 @@ apart bytes store Usage six is refused = refused
 apart bytes store TooLong six is refused = refused
 apart bytes store AlreadyStore six is refused = refused
 apart bytes store SourceFault six is refused = refused
+apart bytes store Callers six is refused = refused
 apart bytes store Memory six is refused = omega (arith, six)
 apart bytes store DepotFault six is refused = omega (arith, six)
 apart bytes store NotStore six is refused = refused store.profile _ is.journal.journal.text

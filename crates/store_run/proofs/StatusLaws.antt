@@ -4,7 +4,7 @@ use Rattle.ss_base.specs.Search.{least}
 use Rattle.ss_base.specs.declared.profile.Profile.{Profile}
 use Rattle.outside.specs.Views.{SourceView, SinkView, ShelfView, SourceFailed, Takes}
 use Rattle.store_run.specs.declared.stop.Stop.{Stop}
-use Rattle.store_run.specs.declared.stop.Stop.TheVariants.{Usage, TooLong, Memory, AlreadyStore, SourceFault, DepotFault, NotStore, BadEntry, IllegalEntry, UnfinishedSession, UnfinishedReading}
+use Rattle.store_run.specs.declared.stop.Stop.TheVariants.{Usage, TooLong, Memory, AlreadyStore, SourceFault, DepotFault, NotStore, BadEntry, IllegalEntry, UnfinishedSession, UnfinishedReading, Callers}
 use Rattle.store_run.specs.Feed.{EndsAtFault}
 use Rattle.store_run.specs.Run.{Refuses, told, sink_failed, memory_wanted, StreamAnswer, printed, ended_early, line_failed, line_wanted_memory, HasJournal, InitAnswer, made, not_made}
 use Rattle.store_run.specs.SoFar.{Stage, so_far}
@@ -24,6 +24,7 @@ least_beside (BadEntry place) = omega arith
 least_beside (IllegalEntry number) = omega arith
 least_beside (UnfinishedSession session) = omega arith
 least_beside (UnfinishedReading reader) = omega arith
+least_beside Callers = omega arith
 
 -- above 9 the fault line is whole, and the status is its cause's
 told_above : (why : Stop) (lines : List ℕ) (sink sink' : SinkView) (status : ℕ) → 9 < status → Refuses why lines sink sink' status → (status ≡ status_of why) × Takes sink sink' (lines ++ fault_line why)
@@ -48,6 +49,7 @@ source_failed text source source' sink sink' (ended_early (BadEntry place) lines
 source_failed text source source' sink sink' (ended_early (IllegalEntry number) lines ends count refuses) = absurd ends
 source_failed text source source' sink sink' (ended_early (UnfinishedSession session) lines ends count refuses) = absurd ends
 source_failed text source source' sink sink' (ended_early (UnfinishedReading reader) lines ends count refuses) = absurd ends
+source_failed text source source' sink sink' (ended_early Callers lines ends count refuses) = absurd ends
 
 pub is_store : (profile : Profile) (depot depot' : ShelfView) (sink sink' : SinkView) → InitAnswer profile depot depot' sink sink' 11
     → HasJournal depot × (depot' ≡ depot) × Takes sink sink' (fault_line AlreadyStore)
@@ -63,3 +65,4 @@ is_store profile depot depot' sink sink' (not_made (BadEntry place) unmade refus
 is_store profile depot depot' sink sink' (not_made (IllegalEntry number) unmade refuses) = absurd unmade
 is_store profile depot depot' sink sink' (not_made (UnfinishedSession session) unmade refuses) = absurd unmade
 is_store profile depot depot' sink sink' (not_made (UnfinishedReading reader) unmade refuses) = absurd unmade
+is_store profile depot depot' sink sink' (not_made Callers unmade refuses) = absurd unmade

@@ -16,3 +16,5 @@ pub mod Run
 pub mod SegmentLines
 pub mod SoFar
 pub mod Stop
+pub mod JobCalls
+pub mod JobRun

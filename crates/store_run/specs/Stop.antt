@@ -5,7 +5,7 @@ use Rattle.std.specs.Fmt.{decimal}
 use Rattle.ss_base.specs.Search.{least}
 use Rattle.outside.specs.Faults.{Rose}
 use Rattle.store_run.specs.declared.stop.Stop.{Stop}
-use Rattle.store_run.specs.declared.stop.Stop.TheVariants.{Usage, TooLong, Memory, AlreadyStore, SourceFault, DepotFault, NotStore, BadEntry, IllegalEntry, UnfinishedSession, UnfinishedReading}
+use Rattle.store_run.specs.declared.stop.Stop.TheVariants.{Usage, TooLong, Memory, AlreadyStore, SourceFault, DepotFault, NotStore, BadEntry, IllegalEntry, UnfinishedSession, UnfinishedReading, Callers}
 
 -- the line that is printed where a run ends early, with its LF
 abbrev pub fault_line : Stop → List ℕ
@@ -20,6 +20,7 @@ fault_line (BadEntry place) = codes "journal bad entry at byte " ++ decimal plac
 fault_line (IllegalEntry number) = codes "journal illegal entry " ++ decimal number ++ 10 ∷ []
 fault_line (UnfinishedSession session) = codes "journal unfinished session " ++ decimal session ++ 10 ∷ []
 fault_line (UnfinishedReading reader) = codes "journal unfinished reading " ++ decimal reader ++ 10 ∷ []
+fault_line Callers = codes "limit callers" ++ 10 ∷ []
 
 -- the status that stands where a run ends early
 abbrev pub status_of : Stop → ℕ
@@ -31,6 +32,7 @@ status_of (IllegalEntry number) = 6
 status_of (UnfinishedSession session) = 6
 status_of (UnfinishedReading reader) = 6
 status_of TooLong = 7
+status_of Callers = 7
 status_of Memory = 8
 status_of AlreadyStore = 11
 status_of SourceFault = 12

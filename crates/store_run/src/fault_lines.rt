@@ -24,7 +24,7 @@ pub fn refuse<O: Sink>(alloc: Global, out: &mut O, waiting: &[u8], why: Stop) ->
     }
 }
 
-fn write_behind<O: Sink>(
+pub(crate) fn write_behind<O: Sink>(
     alloc: Global,
     out: &mut O,
     waiting: &[u8],
@@ -47,6 +47,7 @@ fn write_fault_line<O: Sink>(alloc: Global, out: &mut O, why: Stop) -> Result<()
     match why {
         Stop::Usage => write_all(out, b"usage\n"),
         Stop::TooLong => write_all(out, b"limit stream\n"),
+        Stop::Callers => write_all(out, b"limit callers\n"),
         Stop::Memory => write_all(out, b"memory\n"),
         Stop::AlreadyStore => write_all(out, b"already a store\n"),
         Stop::SourceFault => write_all(out, b"source fault\n"),

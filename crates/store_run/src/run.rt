@@ -1,10 +1,12 @@
 // A run of the program in one lane.
-ghost use Rattle.std.specs.Prelude.{◌≡◌, ◌≢◌, ◌≤◌, []};
+ghost use Rattle.std.specs.Prelude.{◌≡◌, ◌≢◌, ◌≤◌, [], false};
 ghost use Rattle.outside.specs.Views.{source_view, sink_view, shelf_view};
 ghost use Rattle.ss_base.specs.declared.profile.Profile.{Profile as AnyProfile};
 ghost use Rattle.ss_base.specs.Profile.{numbers_of};
-ghost use Rattle.store_run.specs.declared.command.Command.TheVariants.{Names as names, Segments as segments, Init as init, Journal as journal};
-ghost use Rattle.store_run.specs.Command.{texts, words_of, IsUsage};
+ghost use Rattle.store_run.specs.declared.command.Command.TheVariants.{Names as names, Segments as segments, Init as init, Journal as journal, Job as job};
+ghost use Rattle.store_run.specs.Command.{texts, words_of, IsCommand, has_dash, IsUsage, IsNoJob};
+ghost use Rattle.job_script.specs.declared.job.JobKind.{JobKind};
+ghost use Rattle.store_run.specs.JobRun.{JobRun};
 ghost use Rattle.store_run.specs.Listing.{JournalAnswer};
 ghost use Rattle.store_run.specs.Output.{names_text, segments_text};
 ghost use Rattle.store_run.specs.Run.{StreamAnswer, InitAnswer, UsageAnswer};
@@ -14,6 +16,7 @@ use crate::chunk_lines::ChunkLines;
 use crate::command::{Command, command_of};
 use crate::fault_lines::refuse;
 use crate::feed_source::feed;
+use crate::jobs::run_on_store;
 use crate::line_printer::LinePrinter;
 use crate::listing::list_journal;
 use crate::names::NameLines;
@@ -59,14 +62,19 @@ pub fn run_solo<S: Source, O: Sink, F: Shelf, K: Shelf>(
     ensures journal { texts words.now ≡ words_of journal → JournalAnswer
         (shelf_view ⟦<K as Shelf>⟧ lane.old.depot) (shelf_view ⟦<K as Shelf>⟧ lane.new.depot)
         (sink_view ⟦<O as Sink>⟧ out.old) (sink_view ⟦<O as Sink>⟧ out.new) result }
+    ensures jobs { (kind : JobKind) → IsCommand (job kind) → texts words.now ≡ words_of (job kind) → has_dash (texts words.now) ≡ false → JobRun kind
+        (record { files = shelf_view ⟦<F as Shelf>⟧ lane.old.files; depot = shelf_view ⟦<K as Shelf>⟧ lane.old.depot })
+        (record { files = shelf_view ⟦<F as Shelf>⟧ lane.new.files; depot = shelf_view ⟦<K as Shelf>⟧ lane.new.depot })
+        (sink_view ⟦<O as Sink>⟧ out.old) (sink_view ⟦<O as Sink>⟧ out.new) result }
     ensures usage { IsUsage words.now → UsageAnswer (sink_view ⟦<O as Sink>⟧ out.old) (sink_view ⟦<O as Sink>⟧ out.new) result }
 
     // What a command has no part in stays as it was.
-    ensures files { lane.new.files ≡ lane.old.files }
-    ensures depot { ((profile : AnyProfile) → texts words.now ≢ words_of (init profile)) →
+    ensures files { IsNoJob (texts words.now) → lane.new.files ≡ lane.old.files }
+    ensures depot { IsNoJob (texts words.now) → ((profile : AnyProfile) → texts words.now ≢ words_of (init profile)) →
         texts words.now ≢ words_of journal → lane.new.depot ≡ lane.old.depot }
     ensures unread { IsUsage words.now → script.new ≡ script.old }
     ensures init_unread { (profile : AnyProfile) → texts words.now ≡ words_of (init profile) → script.new ≡ script.old }
+    ensures job_unread { (kind : JobKind) → IsCommand (job kind) → texts words.now ≡ words_of (job kind) → script.new ≡ script.old }
     ensures journal_unread { texts words.now ≡ words_of journal → script.new ≡ script.old }
 {
     match command_of(words) {
@@ -74,6 +82,9 @@ pub fn run_solo<S: Source, O: Sink, F: Shelf, K: Shelf>(
         Some(Command::Segments(profile)) => print_segments(alloc, profile, script, out),
         Some(Command::Init(profile)) => make_store(alloc, profile, &mut lane.depot, out),
         Some(Command::Journal) => list_journal(alloc, &mut lane.depot, out),
+        Some(Command::Job(kind)) => {
+            run_on_store(alloc, kind, &mut lane.files, &mut lane.depot, out)
+        }
         None => refuse(alloc, out, &[], Stop::Usage),
     }
 }

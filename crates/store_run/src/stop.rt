@@ -32,6 +32,8 @@ pub enum Stop {
     UnfinishedSession(u32),
     /// The reading with this number is the least that is unfinished, and no session is.
     UnfinishedReading(u32),
+    /// No author's number is left.
+    Callers,
 }
 
 impl Stop {
@@ -47,7 +49,7 @@ impl Stop {
             Stop::IllegalEntry(_) => 6,
             Stop::UnfinishedSession(_) => 6,
             Stop::UnfinishedReading(_) => 6,
-            Stop::TooLong => 7,
+            Stop::TooLong | Stop::Callers => 7,
             Stop::Memory => 8,
             Stop::AlreadyStore => 11,
             Stop::SourceFault => 12,
@@ -67,7 +69,7 @@ impl Stop {
             Stop::IllegalEntry(_) => 6,
             Stop::UnfinishedSession(_) => 6,
             Stop::UnfinishedReading(_) => 6,
-            Stop::TooLong => 7,
+            Stop::TooLong | Stop::Callers => 7,
             Stop::Memory => 9,
             Stop::AlreadyStore => 9,
             Stop::SourceFault => 9,
