@@ -41,7 +41,12 @@ fn damage(alloc: Global, shelf: &mut MemShelf, line: &str) -> Result<(), Fail> {
     let mut words = line.split(' ');
     let name = words.next().ok_or("a name")?;
     match words.next().ok_or("a change")? {
-        "cut" => cut(alloc, shelf, name, words.next().ok_or("a length")?.parse::<usize>()?),
+        "cut" => cut(
+            alloc,
+            shelf,
+            name,
+            words.next().ok_or("a length")?.parse::<usize>()?,
+        ),
         "byte" => {
             let at = words.next().ok_or("a place")?.parse::<usize>()?;
             let byte = words.next().ok_or("a byte")?.parse::<u8>()?;

@@ -76,7 +76,8 @@ fn first_backups() -> &'static str {
 
 #[test]
 fn faults_of_a_first_backup(rt: HostRuntime) -> Result<(), Fail> {
-    assert!(rt; each_as_written(rt.alloc(), "$ init tiny\n", first_backups())?);
+    let came = follow_each(rt.alloc(), "$ init tiny\n", first_backups())?;
+    assert_eq!(rt; came.as_str(), first_backups());
     Ok(())
 }
 
@@ -180,7 +181,8 @@ fn later_jobs() -> &'static str {
 #[test]
 fn faults_of_later_jobs(rt: HostRuntime) -> Result<(), Fail> {
     let before = "$ init tiny\n$ backup in zeros\n";
-    assert!(rt; each_as_written(rt.alloc(), before, later_jobs())?);
+    let came = follow_each(rt.alloc(), before, later_jobs())?;
+    assert_eq!(rt; came.as_str(), later_jobs());
     Ok(())
 }
 

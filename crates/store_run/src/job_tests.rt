@@ -129,8 +129,9 @@ fn refusals() -> &'static str {
 
 #[test]
 fn jobs_that_are_refused(rt: HostRuntime) -> Result<(), Fail> {
-    let alloc = rt.alloc();
-    assert!(rt; each_as_written(alloc, "$ init tiny\n$ backup in zeros\n", refusals())?);
+    let before = "$ init tiny\n$ backup in zeros\n";
+    let came = follow_each(rt.alloc(), before, refusals())?;
+    assert_eq!(rt; came.as_str(), refusals());
     Ok(())
 }
 
@@ -198,6 +199,7 @@ fn other_stores() -> &'static str {
 // Without hooks a segment is stored anew; an empty stream; champions on a tie; an input that fails behind two segments.
 #[test]
 fn other_streams(rt: HostRuntime) -> Result<(), Fail> {
-    assert!(rt; each_as_written(rt.alloc(), "$ init tiny\n", other_stores())?);
+    let came = follow_each(rt.alloc(), "$ init tiny\n", other_stores())?;
+    assert_eq!(rt; came.as_str(), other_stores());
     Ok(())
 }

@@ -125,11 +125,7 @@ fn sum_line(alloc: Global, name: &str, found: Option<&[u8]>) -> Result<String, F
 }
 
 // The line that tells of a file or an object what this one does.
-fn object_line(
-    alloc: Global,
-    lane: &Lane<MemShelf, MemShelf>,
-    line: &str,
-) -> Result<String, Fail> {
+fn object_line(alloc: Global, lane: &Lane<MemShelf, MemShelf>, line: &str) -> Result<String, Fail> {
     let mut words = line.split(' ');
     let what = words.next().ok_or("what is told")?;
     let name = words.next().ok_or("a name")?;
@@ -160,22 +156,21 @@ pub(crate) fn follow(
 }
 
 // A lane in which these lines were run.
-pub(crate) fn lane_after(
-    alloc: Global,
-    lines: &str,
-) -> Result<Lane<MemShelf, MemShelf>, Fail> {
+pub(crate) fn lane_after(alloc: Global, lines: &str) -> Result<Lane<MemShelf, MemShelf>, Fail> {
     let mut lane = lane(alloc)?;
     follow(alloc, &mut lane, lines)?;
     Ok(lane)
 }
 
-// Whether each part of a text, which ends in a line of dashes, is what it prints in a lane after these lines.
-pub(crate) fn each_as_written(alloc: Global, before: &str, parts: &str) -> Result<bool, Fail> {
+// What each part of a transcript, up to a line of dashes, prints in a lane of its own after these lines.
+pub(crate) fn follow_each(alloc: Global, before: &str, parts: &str) -> Result<String, Fail> {
+    let mut came = String::new(alloc);
     for part in parts.split("--\n") {
         let mut lane = lane_after(alloc, before)?;
-        if follow(alloc, &mut lane, part)?.as_str() != part {
-            return Ok(false);
+        if !came.is_empty() {
+            came.push_str("--\n")?;
         }
+        came.push_str(&follow(alloc, &mut lane, part)?)?;
     }
-    Ok(true)
+    Ok(came)
 }
