@@ -23,16 +23,17 @@ pub enum Use {
 /// What a run was given. A lock is given up when this is dropped, or the process ends.
 #[derive(Drop)]
 pub enum Turn {
-    /// There is nothing to lock: the run has no use for the store, or its folder is not there and can't be made.
+    /// There is nothing to lock: the run has no use for the store, or it only reads, and the folder is not there and
+    /// can't be made.
     Free,
     /// The lock.
     Locked(File),
-    /// Another run holds the lock, or the system gave none.
+    /// Another run holds the lock, or the system gave none, or what a run that writes needs of the folder failed.
     Refused,
 }
 
-/// Takes the advisory lock on the folder `name` of the folder `parent`, by the path `folder`, without waiting. The folder is made first, for its owner alone,
-/// where it is not there; before a run that writes, its entry in `parent` is put on the disk.
+/// Takes the advisory lock on this folder, without waiting. The folder is made first, for its owner alone, where it is
+/// not there. Before a run that writes, its entry in its parent is put on the disk.
 pub fn take_turn<R: Files<File = File>>(rt: &R, parent: &str, folder: &str, usage: Use) -> Turn {
     if usage == Use::Nothing {
         return Turn::Free;
@@ -41,7 +42,7 @@ pub fn take_turn<R: Files<File = File>>(rt: &R, parent: &str, folder: &str, usag
     let _ = DirBuilder::new().mode(MODE).create(rt, folder);
     match fs::open(rt, folder) {
         Ok(file) => locked(rt, parent, file, usage),
-        Err(e) if e.kind() == ErrorKind::NotFound => Turn::Free,
+        Err(e) if usage == Use::Reads && e.kind() == ErrorKind::NotFound => Turn::Free,
         Err(_) => Turn::Refused,
     }
 }

@@ -3,6 +3,7 @@
 use crate::{Bar, BarredShelf, Turn, Use, status_beside, take_turn};
 use outside::{MemShelf, Shelf, Trouble};
 use std::fs;
+use std::os::unix::fs::PermissionsExt;
 use std::test::Fail;
 
 #[test]
@@ -81,6 +82,26 @@ fn one_run_writes_or_several_read(rt: HostRuntime) -> Result<(), Fail> {
     fs::remove_dir_all(&rt, FOLDER)?;
     assert!(rt; matches!(take_turn(&rt, ".", FOLDER, Use::Nothing), Turn::Free));
     assert!(rt; fs::metadata(&rt, FOLDER).is_err());
+    Ok(())
+}
+
+// A folder that is not there and can't be made.
+#[test]
+fn no_run_writes_without_a_lock(rt: HostRuntime) {
+    let absent = "store_edge_test_absent/folder";
+    assert!(rt; matches!(take_turn(&rt, ".", absent, Use::Writes), Turn::Refused));
+    assert!(rt; matches!(take_turn(&rt, ".", absent, Use::Reads), Turn::Free));
+}
+
+#[test]
+fn a_folder_is_made_for_its_owner_alone(rt: HostRuntime) -> Result<(), Fail> {
+    let folder = "store_edge_test_mode";
+    drop(take_turn(&rt, ".", folder, Use::Writes));
+    assert_eq!(rt;
+        fs::metadata(&rt, folder)?.permissions().mode() % 0o1000,
+        0o700
+    );
+    fs::remove_dir_all(&rt, folder)?;
     Ok(())
 }
 
