@@ -65,6 +65,51 @@ fn deletes() -> &'static str {
      status 0\n"
 }
 
+fn reclaims() -> &'static str {
+    "$ stat\n\
+     8 a2 stat streams 2 bytes 1538 fresh 257 containers 1 reclaimed 0 entries 8\n\
+     job 1 lane 1 stat ok\n\
+     status 0\n\
+     $ delete zeros\n\
+     9 a3 delete zeros s0\n\
+     job 1 lane 1 delete ok\n\
+     status 0\n\
+     $ reclaim\n\
+     10 a4 reclaim m0.0\n\
+     job 1 lane 1 reclaim ok\n\
+     status 0\n\
+     size m-0-0 absent\n\
+     $ delete zeros\n\
+     11 a5 delete zeros none\n\
+     job 1 lane 1 delete nostream\n\
+     status 2\n\
+     $ delete again\n\
+     12 a6 delete again s1\n\
+     job 1 lane 1 delete ok\n\
+     status 0\n\
+     $ reclaim\n\
+     13 a7 reclaim c0.0,m1.0\n\
+     job 1 lane 1 reclaim ok\n\
+     status 0\n\
+     size c-0-0 absent\n\
+     size m-1-0 absent\n\
+     $ reclaim\n\
+     14 a8 reclaim -\n\
+     job 1 lane 1 reclaim ok\n\
+     status 0\n"
+}
+
+#[test]
+fn what_nothing_needs_is_reclaimed(rt: HostRuntime) -> Result<(), Fail> {
+    let alloc = rt.alloc();
+    let mut lane = lane(alloc)?;
+    let came = follow(alloc, &mut lane, backups())?;
+    assert_eq!(rt; came.as_str(), backups());
+    let came = follow(alloc, &mut lane, reclaims())?;
+    assert_eq!(rt; came.as_str(), reclaims());
+    Ok(())
+}
+
 #[test]
 fn two_backups_of_the_same_bytes(rt: HostRuntime) -> Result<(), Fail> {
     let alloc = rt.alloc();
@@ -116,7 +161,7 @@ fn refusals() -> &'static str {
      $ stat zeros\n\
      usage\n\
      status 1\n\
-     $ reclaim\n\
+     $ reclaim zeros\n\
      usage\n\
      status 1\n\
      $ stat\n\

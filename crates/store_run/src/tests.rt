@@ -176,7 +176,7 @@ fn words_of_no_command(rt: HostRuntime) -> Result<(), Fail> {
         &["journal", "tiny"],
         &["Journal"],
         &["stat", "tiny"],
-        &["reclaim"],
+        &["reclaim", "all"],
         &["delete"],
         &["backup", "in"],
         &["segments"],
