@@ -65,9 +65,9 @@ fn store_input<C: SessionCalls, F: Shelf, K: Shelf>(
     ensures same_reference { (shelf_of depot.new).ghost_name ≡ (shelf_of depot.old).ghost_name }
     ensures answer { MatchResult result
         (λ idle. HasStreamed C.others C.standings C.champions (C.of_open calls.old caller) (input_view (shelf_view ⟦<F as Shelf>⟧ files.old) input.now)
-            (seen ⟦<K as Shelf>⟧ depot.old) (C.of_idle calls.new idle) (seen ⟦<K as Shelf>⟧ depot.new))
+        (seen ⟦<K as Shelf>⟧ depot.old) (C.of_idle calls.new idle) (seen ⟦<K as Shelf>⟧ depot.new))
         (λ back. HasNotStreamed C.others C.standings C.champions (C.of_open calls.old caller) (input_view (shelf_view ⟦<F as Shelf>⟧ files.old) input.now)
-            (seen ⟦<K as Shelf>⟧ depot.old) (C.of_idle calls.new back.0) (seen ⟦<K as Shelf>⟧ depot.new) back.1) }
+        (seen ⟦<K as Shelf>⟧ depot.old) (C.of_idle calls.new back.0) (seen ⟦<K as Shelf>⟧ depot.new) back.1) }
     ensures files { OnlyReads (shelf_view ⟦<F as Shelf>⟧ files.old) (shelf_view ⟦<F as Shelf>⟧ files.new) }
     ensures input_count { MatchResult result (λ _. F.faults files.new ≡ F.faults files.old)
         (λ back. InputCount back.1 (F.faults files.old) (F.faults files.new)) }

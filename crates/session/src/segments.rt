@@ -30,11 +30,11 @@ pub(crate) fn store_next<C: SessionCalls, K: Shelf>(
     ensures same_reference { (shelf_of depot.new).ghost_name ≡ (shelf_of depot.old).ghost_name }
     ensures answer { (chunks : List (List ℕ)) → HasChunks segment.now chunks → MatchResult result
         (λ token. HasStored C.others C.standings C.champions chunks
-            (reached (C.of_open calls.old caller) (seen ⟦<K as Shelf>⟧ depot.old) extent.old)
-            (reached (C.of_open calls.new token) (seen ⟦<K as Shelf>⟧ depot.new) extent.new))
+        (reached (C.of_open calls.old caller) (seen ⟦<K as Shelf>⟧ depot.old) extent.old)
+        (reached (C.of_open calls.new token) (seen ⟦<K as Shelf>⟧ depot.new) extent.new))
         (λ back. HasGivenUp C.others C.standings C.champions chunks
-            (reached (C.of_open calls.old caller) (seen ⟦<K as Shelf>⟧ depot.old) extent.old)
-            (C.of_idle calls.new back.0) (seen ⟦<K as Shelf>⟧ depot.new) back.1) }
+        (reached (C.of_open calls.old caller) (seen ⟦<K as Shelf>⟧ depot.old) extent.old)
+        (C.of_idle calls.new back.0) (seen ⟦<K as Shelf>⟧ depot.new) back.1) }
     ensures ready { IfOk result (λ token. IsReady (C.of_open calls.new token) extent.new) }
     ensures count { MatchResult result (λ _. K.faults (shelf_of depot.new).now ≡ K.faults (shelf_of depot.old).now)
         (λ back. DepotCount back.1 (K.faults (shelf_of depot.old).now) (K.faults (shelf_of depot.new).now)) }
@@ -67,11 +67,11 @@ fn store_chosen<C: SessionCalls, K: Shelf>(
     ensures same_reference { (shelf_of depot.new).ghost_name ≡ (shelf_of depot.old).ghost_name }
     ensures answer { (chunks : List (List ℕ)) → HasChunks segment.now chunks → MatchResult result
         (λ token. HasStoredChosen C.others C.standings C.champions chunks room (C.of_chosen calls.old chosen)
-            (progress_of (seen ⟦<K as Shelf>⟧ depot.old) extent.old)
-            (reached (C.of_open calls.new token) (seen ⟦<K as Shelf>⟧ depot.new) extent.new))
+        (progress_of (seen ⟦<K as Shelf>⟧ depot.old) extent.old)
+        (reached (C.of_open calls.new token) (seen ⟦<K as Shelf>⟧ depot.new) extent.new))
         (λ back. HasGivenUpChosen C.others C.standings C.champions chunks room (C.of_chosen calls.old chosen)
-            (progress_of (seen ⟦<K as Shelf>⟧ depot.old) extent.old)
-            (C.of_idle calls.new back.0) (seen ⟦<K as Shelf>⟧ depot.new) back.1) }
+        (progress_of (seen ⟦<K as Shelf>⟧ depot.old) extent.old)
+        (C.of_idle calls.new back.0) (seen ⟦<K as Shelf>⟧ depot.new) back.1) }
     ensures ready { IfOk result (λ token. IsReady (C.of_open calls.new token) extent.new) }
     ensures count { MatchResult result (λ _. K.faults (shelf_of depot.new).now ≡ K.faults (shelf_of depot.old).now)
         (λ back. DepotCount back.1 (K.faults (shelf_of depot.old).now) (K.faults (shelf_of depot.new).now)) }

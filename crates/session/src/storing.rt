@@ -65,9 +65,9 @@ pub(crate) fn store_for<K: Shelf>(
     ensures same_reference { (shelf_of depot.new).ghost_name ≡ (shelf_of depot.old).ghost_name }
     ensures answer { (chunks : List (List ℕ)) → HasChunks segment.now chunks → MatchResult result
         (λ both. IsStoredFor chunks choice.now room
-            (progress_of (seen ⟦<K as Shelf>⟧ depot.old) extent.old) (progress_of (seen ⟦<K as Shelf>⟧ depot.new) extent.new) both.0 both.1)
+        (progress_of (seen ⟦<K as Shelf>⟧ depot.old) extent.old) (progress_of (seen ⟦<K as Shelf>⟧ depot.new) extent.new) both.0 both.1)
         (λ fault. NotStoredFor chunks choice.now room
-            (progress_of (seen ⟦<K as Shelf>⟧ depot.old) extent.old) (progress_of (seen ⟦<K as Shelf>⟧ depot.new) extent.new) fault) }
+        (progress_of (seen ⟦<K as Shelf>⟧ depot.old) extent.old) (progress_of (seen ⟦<K as Shelf>⟧ depot.new) extent.new) fault) }
     ensures goes_on { GoesOn extent.old.end extent.new.end (vec_len segment.now.pieces) }
     ensures committed { IfOk result (λ both. CanCommitFor choice.now (seen ⟦<K as Shelf>⟧ depot.old) extent.new.end both.0 both.1) }
     ensures texts { MatchResult result (λ _. extent.new.texts ≡ extent.old.texts + 1)

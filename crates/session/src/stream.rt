@@ -35,11 +35,11 @@ pub(crate) fn store_stream<C: SessionCalls, S: Source, K: Shelf>(
     ensures same_reference { (shelf_of depot.new).ghost_name ≡ (shelf_of depot.old).ghost_name }
     ensures answer { MatchResult result
         (λ idle. HasFinishedStream C.others C.standings C.champions (C.of_open calls.old caller)
-            (source_view ⟦<S as Source>⟧ source.old) (source_view ⟦<S as Source>⟧ source.new)
-            (seen ⟦<K as Shelf>⟧ depot.old) (C.of_idle calls.new idle) (seen ⟦<K as Shelf>⟧ depot.new))
+        (source_view ⟦<S as Source>⟧ source.old) (source_view ⟦<S as Source>⟧ source.new)
+        (seen ⟦<K as Shelf>⟧ depot.old) (C.of_idle calls.new idle) (seen ⟦<K as Shelf>⟧ depot.new))
         (λ back. HasFailedStream C.others C.standings C.champions (C.of_open calls.old caller)
-            (source_view ⟦<S as Source>⟧ source.old) (source_view ⟦<S as Source>⟧ source.new)
-            (seen ⟦<K as Shelf>⟧ depot.old) (C.of_idle calls.new back.0) (seen ⟦<K as Shelf>⟧ depot.new) back.1) }
+        (source_view ⟦<S as Source>⟧ source.old) (source_view ⟦<S as Source>⟧ source.new)
+        (seen ⟦<K as Shelf>⟧ depot.old) (C.of_idle calls.new back.0) (seen ⟦<K as Shelf>⟧ depot.new) back.1) }
     ensures behind { S.behind source.new ≡ S.behind source.old }
     ensures input_count { MatchResult result (λ _. S.faults source.new ≡ S.faults source.old)
         (λ back. InputCount back.1 (S.faults source.old) (S.faults source.new)) }
@@ -71,13 +71,13 @@ fn store_segments<C: SessionCalls, S: Source, K: Shelf>(
     ensures same_reference { (shelf_of depot.new).ghost_name ≡ (shelf_of depot.old).ghost_name }
     ensures answer { MatchResult result
         (λ token. HasStoredStream C.others C.standings C.champions (numbers_for (C.of_open calls.old caller))
-            (reached (C.of_open calls.old caller) (seen ⟦<K as Shelf>⟧ depot.old) extent.old)
-            (source_view ⟦<S as Source>⟧ source.old) (source_view ⟦<S as Source>⟧ source.new)
-            (reached (C.of_open calls.new token) (seen ⟦<K as Shelf>⟧ depot.new) extent.new))
+        (reached (C.of_open calls.old caller) (seen ⟦<K as Shelf>⟧ depot.old) extent.old)
+        (source_view ⟦<S as Source>⟧ source.old) (source_view ⟦<S as Source>⟧ source.new)
+        (reached (C.of_open calls.new token) (seen ⟦<K as Shelf>⟧ depot.new) extent.new))
         (λ back. HasStoppedStream C.others C.standings C.champions (numbers_for (C.of_open calls.old caller))
-            (reached (C.of_open calls.old caller) (seen ⟦<K as Shelf>⟧ depot.old) extent.old)
-            (source_view ⟦<S as Source>⟧ source.old) (source_view ⟦<S as Source>⟧ source.new)
-            (C.of_idle calls.new back.0) (seen ⟦<K as Shelf>⟧ depot.new) back.1) }
+        (reached (C.of_open calls.old caller) (seen ⟦<K as Shelf>⟧ depot.old) extent.old)
+        (source_view ⟦<S as Source>⟧ source.old) (source_view ⟦<S as Source>⟧ source.new)
+        (C.of_idle calls.new back.0) (seen ⟦<K as Shelf>⟧ depot.new) back.1) }
     ensures ready { IfOk result (λ token. IsReady (C.of_open calls.new token) extent.new) }
     ensures behind { S.behind source.new ≡ S.behind source.old }
     ensures input_count { MatchResult result (λ _. S.faults source.new ≡ S.faults source.old)
