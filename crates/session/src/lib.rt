@@ -10,3 +10,12 @@ mod stream;
 
 pub use alone::backup_solo;
 pub use caller::backup;
+
+#[cfg(test)]
+mod test_faults;
+#[cfg(test)]
+mod test_lines;
+#[cfg(test)]
+mod test_state;
+#[cfg(test)]
+mod tests;
