@@ -1,0 +1,52 @@
+-- What a restore that answered gave back (this project's own).
+use Rattle.std.specs.Prelude.{◌≡◌, ◌≢◌, ℕ, true, List, ◌++◌, length, Contains, Some}
+use Rattle.ss_base.specs.declared.ids.ManifestId.{ManifestId}
+use Rattle.ss_base.specs.declared.profile.Numbers.{Numbers}
+use Rattle.chunk_name.specs.Pieces.{name_of_bytes}
+use Rattle.outside.specs.Shelf.{Given, with_object}
+use Rattle.outside.specs.Views.{ShelfView}
+use Rattle.journal_entry.specs.declared.entry.Entry.{Entry}
+use Rattle.history.specs.Sessions.{begins, has, retained}
+use Rattle.restore.specs.Copies.{counted}
+use Rattle.stored_streams.specs.Streams.{Streams, manifest_chunks}
+use Rattle.stored_streams.specs.Reads.{Reads}
+use Rattle.stored_streams.specs.Reads.Reads.{recorded, held}
+
+-- the output holds exactly these bytes, and no other object of the files changed
+pub record HoldsBytes (output bytes : List ℕ) (before after : ShelfView) (count : ℕ) : Type 0 where
+  pub files : after ≡ record before { held = with_object before.held output bytes; wrote = after.wrote }
+  pub count_is : count ≡ counted (length bytes)
+
+-- of the session that the name stands for, the output holds the stream
+pub record HasRestored (streams : Streams) (past : List Entry) (name output : List ℕ) (before after : ShelfView) (count : ℕ) : Type 0 where
+  pub session : ℕ
+  pub retained_is : retained name past ≡ Some session
+  pub holds : HoldsBytes output (streams session) before after count
+
+-- these are, perhaps among others, the reads that answered between two moments
+pub record AreRecorded (before after : ShelfView) (gave : List Given) : Type 0 where
+  pub earlier : List Given
+  pub between : List Given
+  pub was : before.gave ≡ Some earlier
+  pub is : after.gave ≡ Some (earlier ++ between)
+  pub among : (read : Given) → Contains between read → Contains gave read
+
+-- what a handle tells of its reads between two moments: them, or the objects that it held before
+abbrev pub Tells : ShelfView → ShelfView → Reads → Type 0
+Tells before after (recorded gave) = AreRecorded before after gave
+Tells before after (held objects) = before.held ≡ Some objects
+
+-- a chunk of the stream of a session that began
+pub record IsBegunChunk (n : Numbers) (streams : Streams) (past : List Entry) (bytes : List ℕ) : Type 0 where
+  pub id : ManifestId
+  pub begun : has (begins id.session) past ≡ true
+  pub chunk : Contains (manifest_chunks n streams id) bytes
+
+-- two different chunks of such streams have one SHA-256
+pub record ChunksCollide (n : Numbers) (streams : Streams) (past : List Entry) : Type 0 where
+  pub one : List ℕ
+  pub other : List ℕ
+  pub differ : one ≢ other
+  pub same : name_of_bytes one ≡ name_of_bytes other
+  pub begun : IsBegunChunk n streams past one
+  pub begun_too : IsBegunChunk n streams past other

@@ -1,0 +1,4 @@
+// From what a restore copied to the stream.
+
+/// tmp
+pub fn from_retained_to_complete() {}
