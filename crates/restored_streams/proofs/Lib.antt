@@ -6,3 +6,4 @@ pub mod StreamLaws
 pub mod GivenLaws
 pub mod WholeLaws
 pub mod AnswerLaws
+pub mod CallLaws

@@ -1,0 +1,62 @@
+-- What a restore that answered gave back.
+use Rattle.std.proofs.Common.{◌≡◌, ◌⊎◌, ℕ, true, List, map, Some, sym, ap, ◌∙◌, subst, inl, inr, Contains}
+use Rattle.std.specs.Prelude.{Ok}
+use Rattle.std.specs.List.{concat}
+use Rattle.ss_base.specs.declared.profile.Numbers.{Numbers}
+use Rattle.journal_entry.specs.declared.entry.Entry.{Entry}
+use Rattle.history.specs.declared.rules.Rules.{Rules}
+use Rattle.history.specs.Sessions.{is_retained}
+use Rattle.store_core.specs.View.{StateView, KeptView, past_of, stream_kept}
+use Rattle.outside.specs.Shelf.{Objects}
+use Rattle.outside.specs.Views.{ShelfView}
+use Rattle.restore.specs.Reads.{ManifestRead, AreManifestsRead, after_manifests, bytes_of_manifests}
+use Rattle.restore.specs.Copies.{Shelves, StreamCopy}
+use Rattle.restore.specs.Restores.{StateCalls, RestoreAnswer}
+use Rattle.stored_streams.specs.Streams.{Streams}
+use Rattle.stored_streams.specs.Collision.{Collide}
+use Rattle.stored_streams.specs.Reads.{Reads, IsGiven}
+use Rattle.stored_streams.specs.Whole.{IsWhole}
+use Rattle.restored_streams.specs.Restored.{HoldsBytes, HasRestored, Tells, ChunksCollide}
+use Rattle.restored_streams.proofs.StreamLaws.{IsKnown}
+use Rattle.restored_streams.proofs.GivenLaws.{read_is_stream}
+use Rattle.restored_streams.proofs.WholeLaws.{whole_is_stream}
+use Rattle.restored_streams.proofs.AnswerLaws.{IsCopyOf, copy_of, holds_other, IsFound, HasCopied, answer_copied}
+
+-- a copy of what is the stream holds the stream
+copy_or : (C : Type 0) (output bytes : List ℕ) (before after : Shelves) (kepts : List KeptView) (count : ℕ) → (copy : IsCopyOf output before after kepts count) → (concat (bytes_of_manifests copy.manifests) ≡ bytes) ⊎ C → HoldsBytes output bytes before.files after.files count ⊎ C
+copy_or C output bytes before after kepts count copy (inl is) = inl (holds_other output (concat (bytes_of_manifests copy.manifests)) bytes before.files after.files count is copy.holds)
+copy_or C output bytes before after kepts count copy (inr collides) = inr collides
+
+pub copied_stream : (n : Numbers) (streams : Streams) (rules : Rules) (past : List Entry) (s : ℕ) (all : List Reads) (reads : Reads) (output : List ℕ) (before after : Shelves) (count : ℕ) → IsKnown n streams rules past → is_retained s past ≡ true → StreamCopy output before after (stream_kept s past) (Ok count) → Contains all reads → Tells before.depot after.depot reads → HoldsBytes output (streams s) before.files after.files count ⊎ Collide n streams past (IsGiven all past)
+copied_stream n streams rules past s all reads output before after count known retained copied among tells =
+    let copy = copy_of output before after (stream_kept s past) count copied in
+    let told = subst (λ (d : ShelfView). Tells before.depot d reads) copy.depot tells in
+    copy_or (Collide n streams past (IsGiven all past)) output (streams s) before after (stream_kept s past) count copy
+    (read_is_stream n streams rules past s all reads before.depot copy.manifests known retained copy.read copy.kepts_are among told)
+
+pub copied_whole : (n : Numbers) (streams : Streams) (rules : Rules) (past : List Entry) (s : ℕ) (objects : Objects) (output : List ℕ) (before after : Shelves) (count : ℕ) → IsKnown n streams rules past → IsWhole n streams past objects → is_retained s past ≡ true → StreamCopy output before after (stream_kept s past) (Ok count) → before.depot.held ≡ Some objects → HoldsBytes output (streams s) before.files after.files count ⊎ ChunksCollide n streams past
+copied_whole n streams rules past s objects output before after count known whole retained copied held =
+    let copy = copy_of output before after (stream_kept s past) count copied in
+    copy_or (ChunksCollide n streams past) output (streams s) before after (stream_kept s past) count copy
+    (whole_is_stream n streams rules past s objects before.depot copy.manifests known whole retained copy.read copy.kepts_are held)
+
+-- ---- a call
+
+stream_copied : (before : StateView) (name output : List ℕ) (old new : Shelves) (count : ℕ) → (is : HasCopied before name output old new count) → StreamCopy output old new (stream_kept is.found.session (past_of before)) (Ok count)
+stream_copied before name output old new count is = subst (λ (ks : List KeptView). StreamCopy output old new ks (Ok count)) is.is_found.manifests is.copy
+
+restored_or : (C : Type 0) (streams : Streams) (before : StateView) (name output : List ℕ) (old new : Shelves) (count : ℕ) → (is : HasCopied before name output old new count) → HoldsBytes output (streams is.found.session) old.files new.files count ⊎ C → HasRestored streams (past_of before) name output old.files new.files count ⊎ C
+restored_or C streams before name output old new count is (inl holds) = inl (record { session = is.found.session; retained_is = is.is_found.retained_is; holds = holds })
+restored_or C streams before name output old new count is (inr collides) = inr collides
+
+pub answered_stream : (n : Numbers) (streams : Streams) (rules : Rules) (all : List Reads) (reads : Reads) (before after : StateView) (author count : ℕ) (name output : List ℕ) (old new : Shelves) → IsKnown n streams rules (past_of before) → RestoreAnswer (StateCalls before author name after) output old new (Ok count) → Contains all reads → Tells old.depot new.depot reads → HasRestored streams (past_of before) name output old.files new.files count ⊎ Collide n streams (past_of before) (IsGiven all (past_of before))
+answered_stream n streams rules all reads before after author count name output old new known answer among tells =
+    let is = answer_copied before after author name output old new count answer in
+    restored_or (Collide n streams (past_of before) (IsGiven all (past_of before))) streams before name output old new count is
+    (copied_stream n streams rules (past_of before) is.found.session all reads output old new count known is.is_found.retained (stream_copied before name output old new count is) among tells)
+
+pub answered_whole : (n : Numbers) (streams : Streams) (rules : Rules) (objects : Objects) (before after : StateView) (author count : ℕ) (name output : List ℕ) (old new : Shelves) → IsKnown n streams rules (past_of before) → IsWhole n streams (past_of before) objects → RestoreAnswer (StateCalls before author name after) output old new (Ok count) → old.depot.held ≡ Some objects → HasRestored streams (past_of before) name output old.files new.files count ⊎ ChunksCollide n streams (past_of before)
+answered_whole n streams rules objects before after author count name output old new known whole answer held =
+    let is = answer_copied before after author name output old new count answer in
+    restored_or (ChunksCollide n streams (past_of before)) streams before name output old new count is
+    (copied_whole n streams rules (past_of before) is.found.session objects output old new count known whole is.is_found.retained (stream_copied before name output old new count is) held)

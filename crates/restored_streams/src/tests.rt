@@ -1,0 +1,10 @@
+use super::*;
+use std::test::Fail;
+
+// The laws run nothing.
+#[test]
+fn each_law_is_called(_rt: HostRuntime) -> Result<(), Fail> {
+    restores_what_was_read();
+    restores_from_whole_objects();
+    Ok(())
+}
