@@ -7,3 +7,4 @@ pub mod GivenLaws
 pub mod WholeLaws
 pub mod AnswerLaws
 pub mod CallLaws
+pub mod StopLaws
