@@ -3,6 +3,7 @@ use Rattle.std.proofs.Common.{◌≡◌, ◌⊎◌, ℕ, zero, suc, true, List, 
 use Rattle.std.specs.List.{concat}
 use Rattle.std.specs.Option.{option_map}
 use Rattle.std.proofs.lemmas.List.{append-nil, append_cancel_left}
+use Rattle.std.proofs.lemmas.List.Elements.{Contains-append_left}
 use Rattle.ss_base.specs.declared.ids.ManifestId.{ManifestId}
 use Rattle.ss_base.specs.declared.profile.Numbers.{Numbers}
 use Rattle.ss_base.proofs.MemberLaws.{In, in_Contains, in_append_left, in_append_right}
@@ -16,12 +17,13 @@ use Rattle.stored_streams.specs.Streams.{Streams}
 use Rattle.stored_streams.specs.Collision.{Collide}
 use Rattle.stored_streams.specs.Reads.{Reads, IsReadOf, IsGiven}
 use Rattle.stored_streams.specs.Reads.Reads.{recorded, held}
-use Rattle.restore.specs.Reads.{ChunkRead, after_chunk, after_chunks, ManifestRead, after_load, after_manifest, after_manifests, AreManifestsRead, bytes_of_chunks, bytes_of_manifests, text_of}
+use Rattle.restore.specs.Reads.{Listed, ChunkRead, after_chunk, after_chunks, ManifestRead, after_load, after_manifest, after_manifests, AreManifestsRead, bytes_of_chunks, bytes_of_manifests, text_of}
 use Rattle.restore.specs.Damage.{load_read, chunk_read}
 use Rattle.restored_streams.specs.Restored.{AreRecorded, Tells}
 use Rattle.restored_streams.proofs.KeptLaws.{manifest_at, IsKeptAt}
 use Rattle.restored_streams.proofs.ReadLaws.{IsReadFrom, text_is_held, chunk_is_held}
-use Rattle.restored_streams.proofs.StreamLaws.{IsKnown, AreGivenFor, IsOneOf, contains_in, one_manifest, stream_or}
+use Rattle.restored_streams.proofs.StreamLaws.{IsKnown, AreGivenFor, IsOneOf, EachBegins, contains_in, one_manifest, stream_or}
+use Rattle.restored_streams.proofs.StopLaws.{GaveMore}
 
 -- ---- the reads that were recorded
 
@@ -87,20 +89,20 @@ recorded_given past depot ms m gave are among = record {
 
 -- ---- the objects that were held
 
-held_given : (past : List Entry) (depot : ShelfView) (objects : Objects) (id : ManifestId) (m : ManifestRead) → depot.held ≡ Some objects → IsKeptAt past id m.kept → IsReadFrom depot m → AreGivenFor (IsReadOf (held objects) past) m
-held_given past depot objects id m told at from =
+held_given : (past : List Entry) (depot : ShelfView) (objects : Objects) (id : ManifestId) (m : ManifestRead) (rest : List Listed) → depot.held ≡ Some objects → IsKeptAt past id m.kept → IsReadFrom depot m rest → AreGivenFor (IsReadOf (held objects) past) m
+held_given past depot objects id m rest told at from =
     let is : kept m.kept.id past ≡ Some m.kept = ap (λ (i : ManifestId). kept i past) at.id_is ∙ at.is in
-    let text = text_is_held depot objects m from told in
+    let text = text_is_held depot objects m rest from told in
     record {
       text = inl (record { view = m.kept; is_kept = is; text = text });
       chunks = λ bytes h.
-          let made = chunk_is_held depot objects m bytes from told h in
+          let made = chunk_is_held depot objects m rest bytes from told h in
           inr (record {
             view = m.kept;
             is_kept = is;
             pieces = m.manifest.pieces.items;
             places = m.manifest.places.items;
-            manifest = from.read.loaded.like.manifest;
+            manifest = from.part.loaded.like.manifest;
             text = sym text;
             number = made.number;
             piece = made.piece;
@@ -113,9 +115,9 @@ held_given past depot objects id m told at from =
 
 -- ---- by one of several handles
 
-read_for : (past : List Entry) (depot : ShelfView) (ms : List ManifestRead) (s k : ℕ) (m : ManifestRead) (reads : Reads) → Tells depot (after_manifests depot ms) reads → IsOneOf past depot ms s k m → AreGivenFor (IsReadOf reads past) m
-read_for past depot ms s k m (recorded gave) tells one = recorded_given past depot ms m gave tells one.among
-read_for past depot ms s k m (held objects) tells one = held_given past depot objects (manifest_at s k) m tells one.kept_is one.from
+read_for : (past : List Entry) (depot : ShelfView) (ms : List ManifestRead) (s k : ℕ) (m : ManifestRead) (rest : List Listed) (reads : Reads) → Tells depot (after_manifests depot ms) reads → IsOneOf past depot ms s k m rest → AreGivenFor (IsReadOf reads past) m
+read_for past depot ms s k m rest (recorded gave) tells one = recorded_given past depot ms m gave tells one.among
+read_for past depot ms s k m rest (held objects) tells one = held_given past depot objects (manifest_at s k) m rest tells one.kept_is one.from
 
 given_in : (all : List Reads) (reads : Reads) (past : List Entry) (bytes : List ℕ) → In reads all → IsReadOf reads past bytes → IsGiven all past bytes
 given_in [] reads past bytes h read = absurd h
@@ -128,9 +130,34 @@ given_for all reads past m among is = record {
   chunks = λ bytes h. given_in all reads past bytes (in_Contains reads all among) (is.chunks bytes h);
 }
 
--- what was read is the stream, or there is a collision
+-- what was read of each manifest begins its segment, or there is a collision
+pub each_begins : (n : Numbers) (streams : Streams) (rules : Rules) (past : List Entry) (s : ℕ) (all : List Reads) (reads : Reads) (depot : ShelfView) (ms : List ManifestRead) → IsKnown n streams rules past → Contains all reads → Tells depot (after_manifests depot ms) reads → EachBegins (Collide n streams past (IsGiven all past)) n streams past depot ms s
+each_begins n streams rules past s all reads depot ms known among tells = λ k m rest one.
+    one_manifest n streams rules past (IsGiven all past) s k m rest one.from.shelf known one.kept_is one.chosen one.from.part
+    (given_for all reads past m among (read_for past depot ms s k m rest reads tells one))
+
+-- what was read is the stream, or there is one
 pub read_is_stream : (n : Numbers) (streams : Streams) (rules : Rules) (past : List Entry) (s : ℕ) (all : List Reads) (reads : Reads) (depot : ShelfView) (ms : List ManifestRead) → IsKnown n streams rules past → is_retained s past ≡ true → AreManifestsRead depot ms → map (λ (x : ManifestRead). x.kept) ms ≡ stream_kept s past → Contains all reads → Tells depot (after_manifests depot ms) reads → (concat (bytes_of_manifests ms) ≡ streams s) ⊎ Collide n streams past (IsGiven all past)
 read_is_stream n streams rules past s all reads depot ms known retained are kepts among tells =
     stream_or (Collide n streams past (IsGiven all past)) n streams rules past s depot ms known retained are kepts
-    (λ k m one. one_manifest n streams rules past (IsGiven all past) s k m one.from.shelf known one.kept_is one.chosen one.from.read
-    (given_for all reads past m among (read_for past depot ms s k m reads tells one)))
+    (each_begins n streams rules past s all reads depot ms known among tells)
+
+-- ---- told at an end, told on the way
+
+-- where more was read later, what a handle tells at the end it tells of the reads before
+pub tells_before : (depot after : ShelfView) (ms : List ManifestRead) (reads : Reads) → GaveMore (after_manifests depot ms) after → Tells depot after reads → Tells depot (after_manifests depot ms) reads
+tells_before depot after ms (recorded gave) more tells =
+    let first = flat_map reads_for ms in
+    let at = gave_manifests depot tells.earlier ms tells.was in
+    let end = more.1 (tells.earlier ++ first) at in
+    let both : Some (tells.earlier ++ tells.between) ≡ Some (tells.earlier ++ first ++ more.0) = sym tells.is ∙ end in
+    let lists : tells.earlier ++ tells.between ≡ tells.earlier ++ first ++ more.0 = cc in
+    let same : tells.between ≡ first ++ more.0 = append_cancel_left tells.earlier tells.between (first ++ more.0) (lists ∙ append_assoc tells.earlier first more.0) in
+    record {
+      earlier = tells.earlier;
+      between = first;
+      was = tells.was;
+      is = at;
+      among = λ read h. tells.among read (subst (λ (l : List Given). Contains l read) (sym same) (Contains-append_left first more.0 read h));
+    }
+tells_before depot after ms (held objects) more tells = tells

@@ -29,6 +29,7 @@ use Rattle.restore.specs.Copies.StopsAtManifest.{not_loaded, in_chunks}
 use Rattle.restore.specs.Copies.StreamCopy.{not_made, made}
 use Rattle.restore.proofs.OutputLaws.{output-joined, more_output}
 use Rattle.restore.proofs.ReadLaws.{after_chunks-push, AreChunksRead-push}
+use Rattle.restored_streams.proofs.ReadLaws.{IsPart}
 
 -- ---- reads that answered behind others
 
@@ -61,12 +62,6 @@ gave_chunk before after place piece (chunk.Damaged want got) answer = gave_one b
 gave_chunk before after place piece chunk.Memory wants = gave_wanting before after wants
 
 -- ---- how a restore stopped
-
--- a manifest that was loaded, and of its chunks the first were read
-pub record IsPart (shelf : ShelfView) (m : ManifestRead) (rest : List Listed) : Type 0 where
-  pub loaded : IsLoaded shelf (after_load shelf m.kept m.manifest) m.kept m.manifest
-  pub split : listed_by m.manifest ≡ map (λ (c : ChunkRead). c.listed) m.chunks ++ rest
-  pub read : AreChunksRead (after_load shelf m.kept m.manifest) m.chunks
 
 -- the output was not made; it holds a front of what the manifests before one gave; or of that and of the first chunks of
 -- that one
