@@ -8,3 +8,4 @@ pub mod WholeLaws
 pub mod AnswerLaws
 pub mod CallLaws
 pub mod StopLaws
+pub mod FrontLaws

@@ -124,7 +124,7 @@ all_manifests C (g ∷ segments) (m ∷ ms) most each =
       ]
     ]
 
-segment_at : (n : Numbers) (streams : Streams) (s k : ℕ) → manifest_chunks n streams (manifest_at s k) ≡ slice_index_or (segments_of n (streams s)) k []
+pub segment_at : (n : Numbers) (streams : Streams) (s k : ℕ) → manifest_chunks n streams (manifest_at s k) ≡ slice_index_or (segments_of n (streams s)) k []
 unfolding manifest_chunks
 segment_at n streams s k = refl
 
