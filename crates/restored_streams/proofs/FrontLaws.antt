@@ -41,7 +41,7 @@ front_of_more output before after xs back bytes is (holds front rest parts now) 
     holds front (rest ++ concat back)
     (sym is ∙ concat-append xs back ∙ ap (λ (l : List ℕ). l ++ concat back) parts ∙ append_assoc front rest (concat back)) now
 
-get_next : {X : Type 0} (xs : List X) (y : X) (ys : List X) (k : ℕ) → k ≡ length xs → slice_get (xs ++ y ∷ ys) k ≡ Some y
+pub get_next : {X : Type 0} (xs : List X) (y : X) (ys : List X) (k : ℕ) → k ≡ length xs → slice_get (xs ++ y ∷ ys) k ≡ Some y
 get_next [] y ys k is = ap (λ (j : ℕ). slice_get (y ∷ ys) j) is
 get_next (x ∷ xs) y ys zero is = absurd (omega arith)
 get_next (x ∷ xs) y ys (suc k) is = get_next xs y ys k (omega arith)

@@ -9,3 +9,5 @@ pub mod AnswerLaws
 pub mod CallLaws
 pub mod StopLaws
 pub mod FrontLaws
+pub mod DamageLaws
+pub mod LaterLaws

@@ -36,7 +36,7 @@ use Rattle.restored_streams.proofs.StreamLaws.{IsKnown, BeginsSegment, EachBegin
 
 -- ---- the number of chunks that was kept is that of the segment
 
-kept_here : (id : ManifestId) (entry : Entry) (past : List Entry) → commits_manifest id entry.point ≡ true → kept id (entry ∷ past) ≡ kept_by entry.point
+pub kept_here : (id : ManifestId) (entry : Entry) (past : List Entry) → commits_manifest id entry.point ≡ true → kept id (entry ∷ past) ≡ kept_by entry.point
 unfolding kept newest
 kept_here id entry past does = rw does refl
 
@@ -47,7 +47,7 @@ point_counts n streams past id view (Commit other content text chunks bytes fres
     ap (λ (v : KeptView). v.chunks) (sym same) ∙ holds.chunk_count ∙ ap (λ (i : ManifestId). length (manifest_pieces n streams i)) (sym (same_manifest-true id other does))
 point_counts n streams past id view _ does holds is = absurd (false≢true does)
 
-kept_counts : (n : Numbers) (streams : Streams) (past : List Entry) (id : ManifestId) (view : KeptView) → EachEntry (ContentOf n streams) past → has (commits_manifest id) past ≡ true → kept id past ≡ Some view → view.chunks ≡ length (manifest_pieces n streams id)
+pub kept_counts : (n : Numbers) (streams : Streams) (past : List Entry) (id : ManifestId) (view : KeptView) → EachEntry (ContentOf n streams) past → has (commits_manifest id) past ≡ true → kept id past ≡ Some view → view.chunks ≡ length (manifest_pieces n streams id)
 kept_counts n streams [] id view contents committed is = absurd (both_ways _ (has_none (commits_manifest id)) committed)
 kept_counts n streams (entry ∷ past) id view contents committed is = elim (cases_Bool (commits_manifest id entry.point)) [
   | inl here ↦ point_counts n streams past id view entry.point here contents.1 (sym (kept_here id entry past here) ∙ is)

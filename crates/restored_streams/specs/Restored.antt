@@ -7,6 +7,9 @@ use Rattle.outside.specs.Shelf.{Given, with_object}
 use Rattle.outside.specs.Views.{ShelfView}
 use Rattle.journal_entry.specs.declared.entry.Entry.{Entry}
 use Rattle.history.specs.Sessions.{begins, has, retained}
+use Rattle.depot.specs.declared.fault.RestoreFault.{RestoreFault}
+use Rattle.depot.specs.declared.fault.RestoreFault.TheVariants.{Exists, NoStream, OutputFault, DepotFault, Damaged, Unlike, Full, Memory}
+use Rattle.restore.specs.Output.{HoldsFront}
 use Rattle.restore.specs.Copies.{counted}
 use Rattle.stored_streams.specs.Streams.{Streams, manifest_chunks}
 use Rattle.stored_streams.specs.Reads.{Reads}
@@ -22,6 +25,24 @@ pub record HasRestored (streams : Streams) (past : List Entry) (name output : Li
   pub session : ℕ
   pub retained_is : retained name past ≡ Some session
   pub holds : HoldsBytes output (streams session) before after count
+
+-- What a restore that did not answer left: all objects of the files as before; or, of the session that the name stands
+-- for, a front of the stream as the output, or an output that could not be made.
+pub data LeavesFront (streams : Streams) (past : List Entry) (name output : List ℕ) (before after : ShelfView) : Type 0 where
+  as_before : after.held ≡ before.held → LeavesFront streams past name output before after
+  of_stream : (session : ℕ) → retained name past ≡ Some session → HoldsFront output before after (streams session)
+      → LeavesFront streams past name output before after
+
+-- a fault, but not one that tells of damage
+abbrev pub TellsNoDamage : RestoreFault → Type 0
+TellsNoDamage (Damaged want got) = ⊥
+TellsNoDamage (Unlike text) = ⊥
+TellsNoDamage Exists = Unit {0}
+TellsNoDamage NoStream = Unit {0}
+TellsNoDamage OutputFault = Unit {0}
+TellsNoDamage DepotFault = Unit {0}
+TellsNoDamage Full = Unit {0}
+TellsNoDamage Memory = Unit {0}
 
 -- these are, perhaps among others, the reads that answered between two moments
 pub record AreRecorded (before after : ShelfView) (gave : List Given) : Type 0 where
