@@ -112,6 +112,17 @@ zip_at l (p ∷ ps) [] h = absurd h
 zip_at l (p ∷ ps) (q ∷ qs) (inl is) = (zero, ap (λ (x : Listed). Some x.0) is, ap (λ (x : Listed). Some x.1) is)
 zip_at l (p ∷ ps) (q ∷ qs) (inr later) = let at = zip_at l ps qs later in (suc at.0, at.1, at.2)
 
+-- ---- faults that tell of no damage
+
+pub output_tells : (why : Trouble) → TellsNoDamage (output_fault why)
+output_tells shelf.Fault = tt
+output_tells shelf.Memory = tt
+
+pub look_tells : (why : NameFault) → TellsNoDamage (look_fault why)
+look_tells name.NoStream = tt
+look_tells name.Full = tt
+look_tells name.Memory = tt
+
 -- ---- a manifest of a retained session, in whole objects
 
 module _ (n : Numbers) (streams : Streams) (rules : Rules) (past : List Entry) (objects : Objects) (s : ℕ) (known : IsKnown n streams rules past) (whole : IsWhole n streams past objects) (retained : is_retained s past ≡ true) where
@@ -167,14 +178,10 @@ module _ (n : Numbers) (streams : Streams) (rules : Rules) (past : List Entry) (
       answer.differ (answer.piece_is ∙ sym named ∙ ap name_of_bytes (sym bytes) ∙ sym answer.given_is)
   chunk_fine q view manifest from depot after listed chunk.Memory right from_held loaded there held answer = tt
 
-  output_fine : (why : Trouble) → TellsNoDamage (output_fault why)
-  output_fine shelf.Fault = tt
-  output_fine shelf.Memory = tt
-
   at_chunk_fine : (q : ℕ) (view : KeptView) (manifest : Manifest) (from : ShelfView) (output : List ℕ) (before after : Shelves) (listed : Listed) (fault : RestoreFault) → IsRight q view → from.held ≡ Some objects → IsLoaded from (after_load from view manifest) view manifest → In listed (listed_by manifest) → before.depot.held ≡ Some objects → StopsAtChunk output before after listed fault → TellsNoDamage fault
   at_chunk_fine q view manifest from output before after listed fault right from_held loaded there held (not_read why is answer same) =
       subst TellsNoDamage (sym is) (chunk_fine q view manifest from before.depot after.depot listed why right from_held loaded there held answer)
-  at_chunk_fine q view manifest from output before after listed fault right from_held loaded there held (not_added bytes why is read failed) = subst TellsNoDamage (sym is) (output_fine why)
+  at_chunk_fine q view manifest from output before after listed fault right from_held loaded there held (not_added bytes why is read failed) = subst TellsNoDamage (sym is) (output_tells why)
 
   at_manifest_fine : (q : ℕ) (view : KeptView) (output : List ℕ) (before after : Shelves) (fault : RestoreFault) → IsRight q view → before.depot.held ≡ Some objects → StopsAtManifest output before after view fault → TellsNoDamage fault
   at_manifest_fine q view output before after fault right held (not_loaded why is answer same) = subst TellsNoDamage (sym is) (load_fine q view before.depot after.depot why right held answer)
@@ -184,7 +191,7 @@ module _ (n : Numbers) (streams : Streams) (rules : Rules) (past : List Entry) (
       at_chunk_fine q view manifest before.depot output _ after stop.listed fault right held loaded there ((chunks_unchanged mid stop.done).only.held ∙ held) stop.stops
 
   copy_fine : (output : List ℕ) (before after : Shelves) (fault : RestoreFault) → before.depot.held ≡ Some objects → StreamCopy output before after (stream_kept s past) (Err fault) → TellsNoDamage fault
-  copy_fine output before after fault held (not_made why is failed same) = let equal : fault ≡ output_fault why = cc in subst TellsNoDamage (sym equal) (output_fine why)
+  copy_fine output before after fault held (not_made why is failed same) = let equal : fault ≡ output_fault why = cc in subst TellsNoDamage (sym equal) (output_tells why)
   copy_fine output before after fault held (made stop) =
       let q = length stop.done in
       let kepts = map (λ (m : ManifestRead). m.kept) stop.done in
@@ -194,12 +201,3 @@ module _ (n : Numbers) (streams : Streams) (rules : Rules) (past : List Entry) (
 
 pub no_damage : (n : Numbers) (streams : Streams) (rules : Rules) (past : List Entry) (s : ℕ) (objects : Objects) (output : List ℕ) (before after : Shelves) (fault : RestoreFault) → IsKnown n streams rules past → IsWhole n streams past objects → is_retained s past ≡ true → StreamCopy output before after (stream_kept s past) (Err fault) → before.depot.held ≡ Some objects → TellsNoDamage fault
 no_damage n streams rules past s objects output before after fault known whole retained copy held = copy_fine n streams rules past objects s known whole retained output before after fault held copy
-
-pub output_tells : (why : Trouble) → TellsNoDamage (output_fault why)
-output_tells shelf.Fault = tt
-output_tells shelf.Memory = tt
-
-pub look_tells : (why : NameFault) → TellsNoDamage (look_fault why)
-look_tells name.NoStream = tt
-look_tells name.Full = tt
-look_tells name.Memory = tt

@@ -1,5 +1,5 @@
 // From what a restore copied to the stream.
-ghost use Rattle.std.specs.Prelude.{ℕ, ◌≡◌, ◌⊎◌, List, map, true, Contains, Some, Ok};
+ghost use Rattle.std.specs.Prelude.{ℕ, ◌≡◌, ◌⊎◌, ◌++◌, List, map, true, Contains, Some, Ok, Err};
 ghost use Rattle.std.specs.List.{All, concat};
 ghost use Rattle.ss_base.specs.declared.profile.Profile.{Profile};
 ghost use Rattle.ss_base.specs.Profile.{numbers_of};
@@ -19,7 +19,9 @@ ghost use Rattle.stored_streams.specs.Whole.{IsWhole};
 ghost use Rattle.restore.specs.Reads.{ManifestRead, AreManifestsRead, after_manifests, bytes_of_manifests};
 ghost use Rattle.restore.specs.Copies.{Shelves, StreamCopy};
 ghost use Rattle.restore.specs.Restores.{StateCalls, RestoreAnswer};
-ghost use Rattle.restored_streams.specs.Restored.{HoldsBytes, HasRestored, Tells, ChunksCollide};
+ghost use Rattle.restore.specs.Output.{HoldsFront};
+ghost use Rattle.depot.specs.declared.fault.RestoreFault.{RestoreFault};
+ghost use Rattle.restored_streams.specs.Restored.{HoldsBytes, HasRestored, LeavesFront, TellsNoDamage, Tells, ChunksCollide};
 
 /// A restore that answered gives back the stream. Where a legal history is that of some streams, what was read for a
 /// retained session is its stream, what was copied to the output is that, and a restore that answered left just this
@@ -86,4 +88,61 @@ pub fn restores_from_whole_objects()
         → RestoreAnswer (StateCalls before author name after) output old new (Ok count)
         → old.depot.held ≡ Some objects
         → HasRestored streams (past_of before) name output old.files new.files count ⊎ ChunksCollide (numbers_of profile) streams (past_of before) }
+{}
+
+/// A restore that did not answer left a front of the stream under its output name, an output that could not be made, or
+/// the files as they were; or two different byte lists among those that were hashed have one SHA-256. It runs nothing.
+pub fn leaves_a_front_of_what_was_read()
+    ensures copied { (profile : Profile) (rules : Rules) (streams : Streams) (past : List Entry) (session : ℕ) (all : List Reads) (reads : Reads) (output : List ℕ) (before after : Shelves) (fault : RestoreFault)
+        → is_legal rules past ≡ true
+        → All IsEntry past
+        → IsOfStreams (numbers_of profile) streams past
+        → is_retained session past ≡ true
+        → StreamCopy output before after (stream_kept session past) (Err fault)
+        → Contains all reads
+        → Tells before.depot after.depot reads
+        → HoldsFront output before.files after.files (streams session) ⊎ Collide (numbers_of profile) streams past (IsGiven all past) }
+    ensures answered { (profile : Profile) (rules : Rules) (streams : Streams) (all : List Reads) (reads : Reads) (before after : StateView) (author : ℕ) (name output : List ℕ) (old new : Shelves) (fault : RestoreFault)
+        → is_legal rules (past_of before) ≡ true
+        → All IsEntry (past_of before)
+        → IsOfStreams (numbers_of profile) streams (past_of before)
+        → RestoreAnswer (StateCalls before author name after) output old new (Err fault)
+        → Contains all reads
+        → Tells old.depot new.depot reads
+        → LeavesFront streams (past_of before) name output old.files new.files
+        ⊎ Collide (numbers_of profile) streams (past_of before) (IsGiven all (past_of before)) }
+{}
+
+/// The same from whole objects, but for two different chunks with one SHA-256. Without exception, such a restore answers
+/// neither `Damaged` nor `Unlike`. It runs nothing.
+pub fn whole_objects_show_no_damage()
+    ensures copied { (profile : Profile) (rules : Rules) (streams : Streams) (past : List Entry) (session : ℕ) (objects : Objects) (output : List ℕ) (before after : Shelves) (fault : RestoreFault)
+        → is_legal rules past ≡ true
+        → All IsEntry past
+        → IsOfStreams (numbers_of profile) streams past
+        → IsWhole (numbers_of profile) streams past objects
+        → is_retained session past ≡ true
+        → StreamCopy output before after (stream_kept session past) (Err fault)
+        → before.depot.held ≡ Some objects
+        → TellsNoDamage fault × (HoldsFront output before.files after.files (streams session) ⊎ ChunksCollide (numbers_of profile) streams past) }
+    ensures answered { (profile : Profile) (rules : Rules) (streams : Streams) (objects : Objects) (before after : StateView) (author : ℕ) (name output : List ℕ) (old new : Shelves) (fault : RestoreFault)
+        → is_legal rules (past_of before) ≡ true
+        → All IsEntry (past_of before)
+        → IsOfStreams (numbers_of profile) streams (past_of before)
+        → IsWhole (numbers_of profile) streams (past_of before) objects
+        → RestoreAnswer (StateCalls before author name after) output old new (Err fault)
+        → old.depot.held ≡ Some objects
+        → TellsNoDamage fault
+        × (LeavesFront streams (past_of before) name output old.files new.files ⊎ ChunksCollide (numbers_of profile) streams (past_of before)) }
+{}
+
+/// A collision of a history stays one as the history goes on. It runs nothing.
+pub fn collisions_stay()
+    ensures hashed { (profile : Profile) (rules : Rules) (streams : Streams) (newer older : List Entry) (all : List Reads)
+        → is_legal rules (newer ++ older) ≡ true
+        → Collide (numbers_of profile) streams older (IsGiven all older)
+        → Collide (numbers_of profile) streams (newer ++ older) (IsGiven all (newer ++ older)) }
+    ensures chunks { (profile : Profile) (streams : Streams) (newer older : List Entry)
+        → ChunksCollide (numbers_of profile) streams older
+        → ChunksCollide (numbers_of profile) streams (newer ++ older) }
 {}

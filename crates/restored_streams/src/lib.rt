@@ -3,7 +3,10 @@
 
 mod laws;
 
-pub use laws::{restores_from_whole_objects, restores_what_was_read};
+pub use laws::{
+    collisions_stay, leaves_a_front_of_what_was_read, restores_from_whole_objects,
+    restores_what_was_read, whole_objects_show_no_damage,
+};
 
 #[cfg(test)]
 mod tests;
