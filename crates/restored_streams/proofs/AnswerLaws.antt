@@ -1,6 +1,6 @@
 -- From what was read to what a restore answered.
-use Rattle.std.proofs.Common.{◌≡◌, ◌⊎◌, ℕ, true, List, [], length, map, Option, None, Some, refl, sym, ap, ◌∙◌, subst, inl, inr}
-use Rattle.std.specs.Prelude.{Ok, Err}
+use Rattle.std.proofs.Common.{◌≡◌, ℕ, true, List, length, map, Option, None, Some, sym, ap, ◌∙◌, subst}
+use Rattle.std.specs.Prelude.{Ok}
 use Rattle.std.specs.List.{concat}
 use Rattle.std.specs.Option.{option_map}
 use Rattle.journal_entry.specs.declared.entry.Entry.{Entry}
@@ -15,14 +15,12 @@ use Rattle.outside.specs.Shelf.{with_object}
 use Rattle.outside.specs.Views.{ShelfView}
 use Rattle.restore.specs.Reads.{ManifestRead, AreManifestsRead, after_manifests, bytes_of_manifests}
 use Rattle.restore.specs.Output.{with_output}
-use Rattle.restore.specs.Copies.{Shelves, counted, AreManifestsCopied, StreamCopy}
+use Rattle.restore.specs.Copies.{Shelves, counted, StreamCopy}
 use Rattle.restore.specs.Copies.StreamCopy.{not_made, made}
-use Rattle.restore.specs.Restores.{Calls, StateCalls, RestoreAnswer}
-use Rattle.restore.specs.Restores.Calls.{no_call, refused, looked_and_done}
+use Rattle.restore.specs.Restores.{StateCalls, RestoreAnswer}
 use Rattle.restore.specs.Restores.RestoreAnswer.{not_asked, exists, not_looked, copied}
 use Rattle.restore.proofs.OutputLaws.{output-joined}
-use Rattle.stored_streams.specs.Streams.{Streams}
-use Rattle.restored_streams.specs.Restored.{HoldsBytes, HasRestored}
+use Rattle.restored_streams.specs.Restored.{HoldsBytes}
 
 -- ---- what was copied
 

@@ -1,5 +1,5 @@
 -- What a restore that answered gave back.
-use Rattle.std.proofs.Common.{◌≡◌, ◌⊎◌, ℕ, true, List, map, Some, sym, ap, ◌∙◌, subst, inl, inr, Contains}
+use Rattle.std.proofs.Common.{◌≡◌, ◌⊎◌, ℕ, true, List, Some, sym, ap, subst, inl, inr, Contains}
 use Rattle.std.specs.Prelude.{Ok, Err}
 use Rattle.std.specs.List.{concat}
 use Rattle.ss_base.specs.declared.profile.Numbers.{Numbers}
@@ -12,7 +12,7 @@ use Rattle.depot.specs.declared.fault.RestoreFault.{RestoreFault}
 use Rattle.depot.specs.declared.fault.RestoreFault.TheVariants.{Exists}
 use Rattle.outside.specs.Shelf.{Objects}
 use Rattle.outside.specs.Views.{ShelfView}
-use Rattle.restore.specs.Reads.{ManifestRead, AreManifestsRead, after_manifests, bytes_of_manifests}
+use Rattle.restore.specs.Reads.{bytes_of_manifests}
 use Rattle.restore.specs.Copies.{Shelves, StreamCopy}
 use Rattle.restore.specs.Faults.{output_fault, look_fault}
 use Rattle.restore.specs.Output.{HoldsFront}

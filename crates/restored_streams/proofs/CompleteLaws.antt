@@ -1,17 +1,16 @@
 -- A retained stream has all its segments committed, and each was chosen for.
-use Rattle.std.proofs.Common.{◌≡◌, ℕ, ◌+◌, ◌<◌, ◌≤◌, Bool, true, false, List, [], ◌∷◌, Option, Some, None, is_some, refl, sym, ap, ◌∙◌, subst, inl, inr, arith, eqb-true}
+use Rattle.std.proofs.Common.{◌≡◌, ℕ, ◌+◌, ◌≤◌, true, false, List, [], ◌∷◌, Option, Some, None, is_some, refl, sym, ◌∙◌, subst, inl, inr, arith, eqb-true}
 use Rattle.std.specs.List.{count_by}
-use Rattle.std.proofs.lemmas.Bool.{false≢true, both_ways, cases_Bool, and_parts, or_cases, or_left, or_right, or_parts, false_from_ne_true, not-true}
-use Rattle.ss_base.specs.declared.ids.ManifestId.{ManifestId}
+use Rattle.std.proofs.lemmas.Bool.{false≢true, both_ways, cases_Bool, and_parts, or_left, or_right, false_from_ne_true}
 use Rattle.ss_base.specs.declared.profile.Numbers.{Numbers}
 use Rattle.ss_base.proofs.MemberLaws.{count_one, count_other}
 use Rattle.journal_entry.specs.declared.entry.Entry.{Entry}
 use Rattle.journal_entry.specs.declared.entry.Point.{Point}
 use Rattle.journal_entry.specs.declared.entry.Point.TheVariants.{Choose, Commit, Finish, Abort}
 use Rattle.history.specs.declared.rules.Rules.{Rules}
-use Rattle.history.specs.Sessions.{has, newest, chooses, commits, finishes, aborts, closes, settles, is_unfinished, commits_of, champions_chosen, pending, is_pending}
+use Rattle.history.specs.Sessions.{has, newest, chooses, commits, finishes, aborts, settles, is_unfinished, commits_of, champions_chosen, pending, is_pending}
 use Rattle.history.specs.Legal.{is_allowed, is_legal}
-use Rattle.history_laws.proofs.Allowed.{step, finishes_open, commit_says}
+use Rattle.history_laws.proofs.Allowed.{step, commit_says}
 use Rattle.history_laws.proofs.SessionLaws.{has_cases, has_none, unfinished_is, finished_closed}
 use Rattle.stored_streams.specs.Streams.{Streams, segment_count}
 use Rattle.stored_streams.specs.OfStreams.{IsComplete, EachEntry}

@@ -1,6 +1,6 @@
 -- Whole objects show no damage.
-use Rattle.std.proofs.Common.{◌≡◌, ◌≢◌, ◌⊎◌, ℕ, zero, suc, ◌*◌, true, false, List, [], ◌∷◌, ◌++◌, length, slice_get, map, Some, refl, sym, ap, ◌∙◌, subst, inl, inr, arith}
-use Rattle.std.specs.Prelude.{Ok, Err}
+use Rattle.std.proofs.Common.{◌≡◌, ℕ, zero, suc, ◌*◌, true, false, List, [], ◌∷◌, length, slice_get, map, Some, refl, sym, ap, ◌∙◌, subst, inl, inr}
+use Rattle.std.specs.Prelude.{Err}
 use Rattle.std.specs.List.{zip}
 use Rattle.std.proofs.lemmas.Bool.{false≢true, both_ways, cases_Bool}
 use Rattle.std.proofs.lemmas.List.{length-map}
@@ -29,7 +29,7 @@ use Rattle.history.specs.Need.{commits_manifest}
 use Rattle.history_laws.proofs.SessionLaws.{has_none, has_cases}
 use Rattle.store_core.specs.declared.fault.NameFault.{NameFault}
 use Rattle.store_core.specs.declared.fault.NameFault.TheVariants as name
-use Rattle.store_core.specs.View.{StateView, KeptView, kept, kept_by, past_of, stream_kept}
+use Rattle.store_core.specs.View.{KeptView, kept, kept_by, stream_kept}
 use Rattle.outside.specs.Shelf.{Objects}
 use Rattle.outside.specs.Views.{ShelfView}
 use Rattle.outside.specs.declared.trouble.Trouble.{Trouble}
@@ -42,13 +42,13 @@ use Rattle.depot.specs.declared.fault.RestoreFault.{RestoreFault}
 use Rattle.depot.specs.Chunks.{ChunkAnswer}
 use Rattle.depot.specs.Loading.{IsLike, IsLoaded, LoadAnswer}
 use Rattle.stored_streams.specs.Streams.{Streams, manifest_pieces}
-use Rattle.stored_streams.specs.Plans.{Planned, planned_places, plan_for, next_plan, plans_after, plans_of, text_of as planned_text}
+use Rattle.stored_streams.specs.Plans.{planned_places, plan_for, next_plan, plans_after, plans_of, text_of as planned_text}
 use Rattle.stored_streams.specs.OfStreams.{ContentOf, StoredOf, EachEntry}
 use Rattle.stored_streams.specs.Whole.{IsManifestWhole, IsWhole}
 use Rattle.stored_streams.proofs.CommittedLaws.{committed_kept, committed_manifest, kept_older}
 use Rattle.stored_streams.proofs.PlanLaws.{places_newest, places_stay}
 use Rattle.restore.specs.Faults.{output_fault, look_fault, load_fault, chunk_fault}
-use Rattle.restore.specs.Reads.{Listed, listed_by, ChunkRead, after_chunks, ManifestRead, after_load, after_manifests, chunk_at, text_at, text_of}
+use Rattle.restore.specs.Reads.{Listed, listed_by, ChunkRead, ManifestRead, after_load, chunk_at, text_at, text_of}
 use Rattle.restore.specs.Copies.{Shelves, StopsAtChunk, StopsAtManifest, StreamCopy}
 use Rattle.restore.specs.Copies.StopsAtChunk.{not_read, not_added}
 use Rattle.restore.specs.Copies.StopsAtManifest.{not_loaded, in_chunks}

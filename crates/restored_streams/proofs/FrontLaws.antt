@@ -1,11 +1,11 @@
 -- What a restore that stopped left is a front of the stream.
-use Rattle.std.proofs.Common.{◌≡◌, ◌⊎◌, ℕ, zero, suc, ◌<◌, ◌≤◌, true, List, [], ◌∷◌, ◌++◌, length, drop, drop-cons, slice_get, map, Some, refl, sym, ap, ◌∙◌, subst, inl, inr, arith, append_assoc, Contains}
+use Rattle.std.proofs.Common.{◌≡◌, ◌⊎◌, ℕ, zero, suc, ◌<◌, true, List, [], ◌∷◌, ◌++◌, length, drop, drop-cons, slice_get, map, Some, refl, sym, ap, ◌∙◌, subst, inl, inr, arith, append_assoc, Contains}
 use Rattle.std.specs.Prelude.{Err}
 use Rattle.std.specs.List.{concat, slice_index_or}
 use Rattle.std.proofs.lemmas.List.{length-map, length-append}
 use Rattle.std.proofs.lemmas.List.Folds.{concat-append}
 use Rattle.ss_base.specs.declared.profile.Numbers.{Numbers}
-use Rattle.ss_base.proofs.MemberLaws.{In, in_append_left, in_append_right}
+use Rattle.ss_base.proofs.MemberLaws.{in_append_left, in_append_right}
 use Rattle.journal_entry.specs.declared.entry.Entry.{Entry}
 use Rattle.history.specs.declared.rules.Rules.{Rules}
 use Rattle.history.specs.Sessions.{is_retained}
@@ -18,7 +18,7 @@ use Rattle.stored_streams.specs.Streams.{Streams, manifest_chunks}
 use Rattle.stored_streams.specs.Collision.{Collide}
 use Rattle.stored_streams.specs.Reads.{Reads, IsGiven}
 use Rattle.stored_streams.specs.Whole.{IsWhole}
-use Rattle.restore.specs.Reads.{Listed, ManifestRead, after_manifest, after_manifests, AreManifestsRead, bytes_of_chunks, bytes_of_manifests}
+use Rattle.restore.specs.Reads.{Listed, ManifestRead, after_manifests, AreManifestsRead, bytes_of_chunks, bytes_of_manifests}
 use Rattle.restore.specs.Output.{HoldsFront}
 use Rattle.restore.specs.Output.HoldsFront.{not_made, holds}
 use Rattle.restore.specs.Copies.{Shelves, StreamCopy}
@@ -27,7 +27,7 @@ use Rattle.restore.proofs.ReadLaws.{after_manifests-push}
 use Rattle.restored_streams.specs.Restored.{Tells, ChunksCollide}
 use Rattle.restored_streams.proofs.HeldLaws.{flat, segments_whole}
 use Rattle.restored_streams.proofs.KeptLaws.{manifest_at}
-use Rattle.restored_streams.proofs.ReadLaws.{IsPart, IsReadFrom, names_listed, IsFront}
+use Rattle.restored_streams.proofs.ReadLaws.{IsPart, IsReadFrom}
 use Rattle.restored_streams.proofs.StreamLaws.{IsKnown, EachBegins, one_of, segment_at, segments_kept, first_segments}
 use Rattle.restored_streams.proofs.GivenLaws.{each_begins, tells_before}
 use Rattle.restored_streams.proofs.StopLaws.{GaveMore, Stop, stop_of}
@@ -91,7 +91,7 @@ module _ (C : Type 0) (n : Numbers) (streams : Streams) (rules : Rules) (past : 
         | inl is ↦ elim (each k m left (one_of n streams rules past s before.depot (done ++ m ∷ []) k m left known (in_append_right m done (m ∷ []) (inl refl)) from there)) [
           | inr collides ↦ inr collides
           | inl begins ↦ inl (front_of_more output before.files after.files (bytes_of_manifests done ++ bytes_of_chunks m.chunks) (begins.later ++ flat (drop (suc k) segments)) (streams s)
-          (joined done (bytes_of_chunks m.chunks) begins.later short is begins.is) front)
+              (joined done (bytes_of_chunks m.chunks) begins.later short is begins.is) front)
         ]
       ]
 

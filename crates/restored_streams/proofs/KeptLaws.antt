@@ -1,12 +1,11 @@
 -- The manifests that a look finds are those of the session, from 0 on.
-use Rattle.std.proofs.Common.{◌≡◌, ℕ, ◌+◌, Bool, true, false, List, [], ◌∷◌, ◌++◌, length, slice_get, Option, Some, None, refl, sym, ap, ◌∙◌, subst, inl, inr, eqb-true, arith, length-append}
+use Rattle.std.proofs.Common.{◌≡◌, ℕ, true, false, List, [], ◌∷◌, ◌++◌, length, slice_get, Option, Some, None, refl, sym, ap, ◌∙◌, subst, inl, inr, eqb-true, arith, length-append}
 use Rattle.std.specs.List.{filter_map}
-use Rattle.std.specs.Option.{option_and_then}
-use Rattle.std.proofs.lemmas.Bool.{false≢true, both_ways, cases_Bool, false_from_ne_true}
+use Rattle.std.proofs.lemmas.Bool.{false≢true, cases_Bool, false_from_ne_true}
 use Rattle.ss_base.specs.declared.ids.ManifestId.{ManifestId}
 use Rattle.ss_base.specs.Ids.{same_manifest}
-use Rattle.ss_base.proofs.MemberLaws.{In, find_in}
-use Rattle.ss_base.proofs.IdLaws.{same_manifest-self, same_manifest-true}
+use Rattle.ss_base.proofs.MemberLaws.{In}
+use Rattle.ss_base.proofs.IdLaws.{same_manifest-self}
 use Rattle.ss_base.proofs.GetLaws.{at_end}
 use Rattle.journal_entry.specs.declared.entry.Entry.{Entry}
 use Rattle.journal_entry.specs.declared.entry.Point.{Point}
@@ -15,11 +14,11 @@ use Rattle.history.specs.declared.rules.Rules.{Rules}
 use Rattle.history.specs.Sessions.{has, newest, commits, commits_of}
 use Rattle.history.specs.Need.{commits_manifest}
 use Rattle.history.specs.Legal.{is_allowed, is_legal}
-use Rattle.history_laws.specs.EntryNumbers.{numbers_of, entry_at}
+use Rattle.history_laws.specs.EntryNumbers.{numbers_of}
 use Rattle.history_laws.proofs.Allowed.{IsStep, step, commit_says}
-use Rattle.history_laws.proofs.SessionLaws.{has_now, has_older, has_none}
+use Rattle.history_laws.proofs.SessionLaws.{has_now, has_older}
 use Rattle.history_laws.proofs.OnceLaws.{never_twice}
-use Rattle.history_laws.proofs.NumberLaws.{DoesAt, entry_kept, entry_last, numbers_more, numbers_same, numbers_first, numbers_do}
+use Rattle.history_laws.proofs.NumberLaws.{entry_kept, entry_last, numbers_more, numbers_same, numbers_first, numbers_do}
 use Rattle.store_core.specs.View.{KeptView, kept, kept_by, kept_at, stream_kept}
 use Rattle.restored_streams.proofs.CompleteLaws.{commits_same, commits_more}
 

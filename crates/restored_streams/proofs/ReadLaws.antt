@@ -1,5 +1,5 @@
 -- The reads of manifests and chunks, each by itself.
-use Rattle.std.proofs.Common.{◌≡◌, ◌≢◌, ◌⊎◌, ℕ, zero, suc, ◌*◌, true, List, [], ◌∷◌, ◌++◌, length, slice_get, map, Some, refl, sym, ap, ◌∙◌, subst, inl, inr, arith, Contains}
+use Rattle.std.proofs.Common.{◌≡◌, ◌≢◌, ◌⊎◌, ℕ, zero, suc, ◌*◌, true, List, [], ◌∷◌, ◌++◌, length, slice_get, map, Some, refl, sym, ap, ◌∙◌, subst, inl, inr, arith}
 use Rattle.std.specs.List.{zip}
 use Rattle.std.proofs.lemmas.Bool.{false≢true, cases_Bool}
 use Rattle.std.proofs.lemmas.List.{append-nil, map-append}
@@ -15,7 +15,7 @@ use Rattle.chunk_name.specs.Pieces.{name_of_bytes}
 use Rattle.outside.specs.Shelf.{Objects}
 use Rattle.outside.specs.Views.{ShelfView}
 use Rattle.depot.specs.Loading.{IsLoaded}
-use Rattle.restore.specs.Reads.{Listed, listed_by, ChunkRead, after_chunk, AreChunksRead, ManifestRead, after_load, after_manifest, IsManifestRead, AreManifestsRead, bytes_of_chunks, chunk_at, text_at, text_of}
+use Rattle.restore.specs.Reads.{Listed, listed_by, ChunkRead, after_chunk, AreChunksRead, ManifestRead, after_load, after_manifest, AreManifestsRead, bytes_of_chunks, chunk_at, text_at, text_of}
 use Rattle.restore.proofs.HeldLaws.{told, chunk_bytes, manifest_unchanged}
 
 -- ---- lists of pieces and places

@@ -1,5 +1,5 @@
 -- What a restore read is the stream, or there is a collision.
-use Rattle.std.proofs.Common.{◌≡◌, ◌≢◌, ◌⊎◌, ℕ, zero, suc, ◌<◌, ◌≤◌, true, List, [], ◌∷◌, ◌++◌, length, drop, slice_get, map, Some, refl, sym, ap, ◌∙◌, subst, inl, inr, arith, Contains}
+use Rattle.std.proofs.Common.{◌≡◌, ◌⊎◌, ℕ, zero, suc, ◌<◌, ◌≤◌, true, List, [], ◌∷◌, ◌++◌, length, drop, slice_get, map, Some, refl, sym, ap, ◌∙◌, inl, inr, arith, Contains}
 use Rattle.std.specs.List.{All, concat, count_by, slice_index_or}
 use Rattle.std.proofs.lemmas.List.{length-map, length-append, append_assoc, append-nil}
 use Rattle.std.proofs.Math.Seq.{drop-length}
@@ -16,11 +16,10 @@ use Rattle.manifest_codec.proofs.TextLaws as text
 use Rattle.journal_entry.specs.declared.entry.Entry.{Entry}
 use Rattle.journal_entry.specs.Bounds.{IsEntry}
 use Rattle.history.specs.declared.rules.Rules.{Rules}
-use Rattle.history.specs.Sessions.{has, chooses, commits_of, is_retained}
-use Rattle.history.specs.Need.{commits_manifest}
+use Rattle.history.specs.Sessions.{chooses, is_retained}
 use Rattle.history.specs.Legal.{is_legal}
 use Rattle.history_laws.proofs.SessionLaws.{retained_parts}
-use Rattle.store_core.specs.View.{KeptView, kept, stream_kept}
+use Rattle.store_core.specs.View.{KeptView, stream_kept}
 use Rattle.outside.specs.Views.{ShelfView}
 use Rattle.segment_reader.specs.SegmentsOf.{segments_of}
 use Rattle.stored_streams.specs.Streams.{Streams, segment_count, manifest_chunks, manifest_pieces}
@@ -28,11 +27,11 @@ use Rattle.stored_streams.specs.Plans.{planned_places, plans_of, text_of as plan
 use Rattle.stored_streams.specs.OfStreams.{IsOfStreams}
 use Rattle.stored_streams.specs.Collision.{Collide}
 use Rattle.stored_streams.proofs.CommittedLaws.{IsKeptOf, committed_kept, committed_manifest}
-use Rattle.restore.specs.Reads.{Listed, ManifestRead, IsManifestRead, AreManifestsRead, bytes_of_chunks, bytes_of_manifests, text_of}
+use Rattle.restore.specs.Reads.{Listed, ManifestRead, AreManifestsRead, bytes_of_chunks, bytes_of_manifests, text_of}
 use Rattle.restored_streams.proofs.HeldLaws.{flat, segments_whole}
 use Rattle.restored_streams.proofs.CompleteLaws.{finished_complete, commits_chosen}
 use Rattle.restored_streams.proofs.KeptLaws.{manifest_at, IsKeptAt, row_length, row_at}
-use Rattle.restored_streams.proofs.ReadLaws.{IsPart, IsReadFrom, read_from, names_listed, names_of_pieces, same_bytes, Differ, IsFront, front_or_differ, front_is_whole}
+use Rattle.restored_streams.proofs.ReadLaws.{IsPart, IsReadFrom, read_from, names_listed, names_of_pieces, same_bytes, IsFront, front_or_differ, front_is_whole}
 
 -- what is known of the entries
 pub record IsKnown (n : Numbers) (streams : Streams) (rules : Rules) (past : List Entry) : Type 0 where
