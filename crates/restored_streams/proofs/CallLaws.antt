@@ -1,13 +1,14 @@
 -- What a restore that answered gave back.
-use Rattle.std.proofs.Common.{◌≡◌, ◌⊎◌, ℕ, true, List, Some, sym, ap, subst, inl, inr, Contains}
-use Rattle.std.specs.Prelude.{Ok, Err}
+use Rattle.std.proofs.Common.{◌≡◌, ◌⊎◌, ℕ, true, List, [], ◌∷◌, ◌++◌, map, Some, sym, ap, ◌∙◌, subst, inl, inr, append_assoc, Contains}
+use Rattle.std.specs.Prelude.{Result, Ok, Err}
 use Rattle.std.specs.List.{concat}
 use Rattle.ss_base.specs.declared.profile.Numbers.{Numbers}
 use Rattle.journal_entry.specs.declared.entry.Entry.{Entry}
 use Rattle.history.specs.declared.rules.Rules.{Rules}
 use Rattle.history.specs.Sessions.{is_retained}
 use Rattle.store_core.specs.declared.values.Looked.{Looked}
-use Rattle.store_core.specs.View.{StateView, KeptView, past_of, stream_kept}
+use Rattle.store_core.specs.View.{StateView, KeptView, past_of, stream_kept, Adds}
+use Rattle.history_calls.specs.Tokens.{IdleView}
 use Rattle.depot.specs.declared.fault.RestoreFault.{RestoreFault}
 use Rattle.depot.specs.declared.fault.RestoreFault.TheVariants.{Exists}
 use Rattle.outside.specs.Shelf.{Objects}
@@ -16,13 +17,13 @@ use Rattle.restore.specs.Reads.{bytes_of_manifests}
 use Rattle.restore.specs.Copies.{Shelves, StreamCopy}
 use Rattle.restore.specs.Faults.{output_fault, look_fault}
 use Rattle.restore.specs.Output.{HoldsFront}
-use Rattle.restore.specs.Restores.{StateCalls, RestoreAnswer}
+use Rattle.restore.specs.Restores.{CallsOf, StateCalls, HasReadStream, RestoreAnswer}
 use Rattle.restore.specs.Restores.RestoreAnswer.{not_asked, exists, not_looked, copied}
 use Rattle.stored_streams.specs.Streams.{Streams}
 use Rattle.stored_streams.specs.Collision.{Collide}
 use Rattle.stored_streams.specs.Reads.{Reads, IsGiven}
 use Rattle.stored_streams.specs.Whole.{IsWhole}
-use Rattle.restored_streams.specs.Restored.{HoldsBytes, HasRestored, LeavesFront, TellsNoDamage, Tells, ChunksCollide}
+use Rattle.restored_streams.specs.Restored.{HoldsBytes, HasRestored, HasCopiedAt, LeavesFront, TellsNoDamage, Tells, ChunksCollide}
 use Rattle.restored_streams.specs.Restored.LeavesFront.{as_before, of_stream}
 use Rattle.restored_streams.proofs.FrontLaws.{front_read, front_whole}
 use Rattle.restored_streams.proofs.DamageLaws.{no_damage, output_tells, look_tells}
@@ -123,3 +124,44 @@ undamaged n streams rules objects before name output old new fault known whole (
 pub answered_undamaged : (n : Numbers) (streams : Streams) (rules : Rules) (objects : Objects) (before after : StateView) (author : ℕ) (name output : List ℕ) (old new : Shelves) (fault : RestoreFault) → IsKnown n streams rules (past_of before) → IsWhole n streams (past_of before) objects → RestoreAnswer (StateCalls before author name after) output old new (Err fault) → old.depot.held ≡ Some objects → TellsNoDamage fault
 answered_undamaged n streams rules objects before after author name output old new fault known whole answer held =
     undamaged n streams rules objects before name output old new fault known whole (failed_at before after author name output old new fault answer) held
+
+-- ---- a caller beside others
+
+seen_later : (turn reading last after : StateView) (look ended : Entry) (came : List Entry) → Adds turn reading look → last ≡ record reading { entries = reading.entries ++ came } → Adds last after ended → (later : List Entry) × (after.entries ≡ turn.entries ++ later)
+seen_later turn reading last after look ended came first more second =
+    let one : after.entries ≡ last.entries ++ ended ∷ [] = ap (λ (v : StateView). v.entries) second.added in
+    let two : last.entries ≡ reading.entries ++ came = ap (λ (v : StateView). v.entries) more in
+    let three : reading.entries ≡ turn.entries ++ look ∷ [] = ap (λ (v : StateView). v.entries) first.added in
+    ((look ∷ []) ++ came ++ (ended ∷ []),
+    one ∙ ap (λ (l : List Entry). l ++ ended ∷ []) (two ∙ ap (λ (l : List Entry). l ++ came) three)
+    ∙ ap (λ (l : List Entry). l ++ ended ∷ []) (append_assoc turn.entries (look ∷ []) came)
+    ∙ append_assoc turn.entries ((look ∷ []) ++ came) (ended ∷ []))
+
+read_at : (standings champions : ℕ) (before after : IdleView) (name output : List ℕ) (old new : Shelves) (result : Result ℕ RestoreFault) (found : Looked) → HasReadStream (λ came. Unit {0}) standings champions before name after found → StreamCopy output old new found.manifests.items result → HasCopiedAt standings champions before name output after old new result
+read_at standings champions before after name output old new result found did copy =
+    let look = did.looked.at_turn in
+    let ending = did.ended.at_turn in
+    let is = look_found look.turn did.reading.seen before.author name did.reading.looked look.done in
+    let more = seen_later look.turn did.reading.seen ending.turn after.seen _ _ ending.is_turn.came look.done.2 ending.is_turn.turn_is ending.done in
+    record {
+      turn = look.turn;
+      is_turn = look.is_turn;
+      later = more.0;
+      goes_on = more.1;
+      session = did.reading.looked.session;
+      retained_is = is.retained_is;
+      is_retained_then = is.retained;
+      copy = subst (λ (ks : List KeptView). StreamCopy output old new ks result) (ap (λ (l : Looked). l.manifests.items) (sym did.found_is) ∙ is.manifests) copy;
+    }
+
+pub ok_beside : (standings champions count : ℕ) (before after : IdleView) (name output : List ℕ) (old new : Shelves) → RestoreAnswer (CallsOf (λ came. Unit {0}) standings champions before name after) output old new (Ok count) → HasCopiedAt standings champions before name output after old new (Ok count)
+ok_beside standings champions count before after name output old new (not_asked why is calls failed same) = absurd (cc)
+ok_beside standings champions count before after name output old new (exists is calls there same) = absurd (cc)
+ok_beside standings champions count before after name output old new (not_looked why is calls absent same) = absurd (cc)
+ok_beside standings champions count before after name output old new (copied found calls absent copy) = read_at standings champions before after name output old new (Ok count) found calls copy
+
+pub err_beside : (standings champions : ℕ) (before after : IdleView) (name output : List ℕ) (old new : Shelves) (fault : RestoreFault) → RestoreAnswer (CallsOf (λ came. Unit {0}) standings champions before name after) output old new (Err fault) → (new.files.held ≡ old.files.held) ⊎ HasCopiedAt standings champions before name output after old new (Err fault)
+err_beside standings champions before after name output old new fault (not_asked why is calls failed same) = inl failed.objects
+err_beside standings champions before after name output old new fault (exists is calls there same) = inl (ap (λ (s : Shelves). s.files.held) same)
+err_beside standings champions before after name output old new fault (not_looked why is calls absent same) = inl (ap (λ (s : Shelves). s.files.held) same)
+err_beside standings champions before after name output old new fault (copied found calls absent copy) = inr (read_at standings champions before after name output old new (Err fault) found calls copy)

@@ -1,16 +1,19 @@
 -- What a restore that answered gave back (this project's own).
-use Rattle.std.specs.Prelude.{◌≡◌, ◌≢◌, ℕ, true, List, ◌++◌, length, Contains, Some}
+use Rattle.std.specs.Prelude.{◌≡◌, ◌≢◌, ℕ, true, List, ◌++◌, length, Contains, Some, Result}
 use Rattle.ss_base.specs.declared.ids.ManifestId.{ManifestId}
 use Rattle.ss_base.specs.declared.profile.Numbers.{Numbers}
 use Rattle.chunk_name.specs.Pieces.{name_of_bytes}
 use Rattle.outside.specs.Shelf.{Given, with_object}
 use Rattle.outside.specs.Views.{ShelfView}
 use Rattle.journal_entry.specs.declared.entry.Entry.{Entry}
-use Rattle.history.specs.Sessions.{begins, has, retained}
+use Rattle.history.specs.Sessions.{begins, has, retained, is_retained}
+use Rattle.store_core.specs.View.{StateView, past_of, stream_kept}
+use Rattle.history_calls.specs.Tokens.{IdleView}
+use Rattle.history_calls.specs.Turn.{IsTurn}
 use Rattle.depot.specs.declared.fault.RestoreFault.{RestoreFault}
 use Rattle.depot.specs.declared.fault.RestoreFault.TheVariants.{Exists, NoStream, OutputFault, DepotFault, Damaged, Unlike, Full, Memory}
 use Rattle.restore.specs.Output.{HoldsFront}
-use Rattle.restore.specs.Copies.{counted}
+use Rattle.restore.specs.Copies.{Shelves, counted, StreamCopy}
 use Rattle.stored_streams.specs.Streams.{Streams, manifest_chunks}
 use Rattle.stored_streams.specs.Reads.{Reads}
 use Rattle.stored_streams.specs.Reads.Reads.{recorded, held}
@@ -71,3 +74,15 @@ pub record ChunksCollide (n : Numbers) (streams : Streams) (past : List Entry) :
   pub same : name_of_bytes one ≡ name_of_bytes other
   pub begun : IsBegunChunk n streams past one
   pub begun_too : IsBegunChunk n streams past other
+
+-- At its turn, whatever others had added since, a caller looked a name up, and then copied the manifests of the session
+-- that the name stood for. What it saw in the end goes on from the history at that turn.
+pub record HasCopiedAt (standings champions : ℕ) (before : IdleView) (name output : List ℕ) (after : IdleView) (old new : Shelves) (result : Result ℕ RestoreFault) : Type 0 where
+  pub turn : StateView
+  pub is_turn : IsTurn (λ came. Unit {0}) standings champions before.author before.seen turn
+  pub later : List Entry
+  pub goes_on : after.seen.entries ≡ turn.entries ++ later
+  pub session : ℕ
+  pub retained_is : retained name (past_of turn) ≡ Some session
+  pub is_retained_then : is_retained session (past_of turn) ≡ true
+  pub copy : StreamCopy output old new (stream_kept session (past_of turn)) result

@@ -9,6 +9,7 @@ ghost use Rattle.history.specs.declared.rules.Rules.{Rules};
 ghost use Rattle.history.specs.Sessions.{is_retained};
 ghost use Rattle.history.specs.Legal.{is_legal};
 ghost use Rattle.store_core.specs.View.{StateView, past_of, stream_kept};
+ghost use Rattle.history_calls.specs.Tokens.{IdleView};
 ghost use Rattle.outside.specs.Shelf.{Objects};
 ghost use Rattle.outside.specs.Views.{ShelfView};
 ghost use Rattle.stored_streams.specs.Streams.{Streams};
@@ -18,10 +19,10 @@ ghost use Rattle.stored_streams.specs.Reads.{Reads, IsGiven};
 ghost use Rattle.stored_streams.specs.Whole.{IsWhole};
 ghost use Rattle.restore.specs.Reads.{ManifestRead, AreManifestsRead, after_manifests, bytes_of_manifests};
 ghost use Rattle.restore.specs.Copies.{Shelves, StreamCopy};
-ghost use Rattle.restore.specs.Restores.{StateCalls, RestoreAnswer};
+ghost use Rattle.restore.specs.Restores.{CallsOf, StateCalls, RestoreAnswer};
 ghost use Rattle.restore.specs.Output.{HoldsFront};
 ghost use Rattle.depot.specs.declared.fault.RestoreFault.{RestoreFault};
-ghost use Rattle.restored_streams.specs.Restored.{HoldsBytes, HasRestored, LeavesFront, TellsNoDamage, Tells, ChunksCollide};
+ghost use Rattle.restored_streams.specs.Restored.{HoldsBytes, HasRestored, HasCopiedAt, LeavesFront, TellsNoDamage, Tells, ChunksCollide};
 
 /// A restore that answered gives back the stream. Where a legal history is that of some streams, what was read for a
 /// retained session is its stream, what was copied to the output is that, and a restore that answered left just this
@@ -145,4 +146,16 @@ pub fn collisions_stay()
     ensures chunks { (profile : Profile) (streams : Streams) (newer older : List Entry)
         → ChunksCollide (numbers_of profile) streams older
         → ChunksCollide (numbers_of profile) streams (newer ++ older) }
+{}
+
+/// What a restore does for a caller beside others: it copies the manifests of the session that the name stood for at the
+/// caller's turn, or leaves the objects of the files as they were. The laws of what is copied then say what the output
+/// holds. It runs nothing.
+pub fn copies_what_is_retained()
+    ensures ok { (standings champions count : ℕ) (before after : IdleView) (name output : List ℕ) (old new : Shelves)
+        → RestoreAnswer (CallsOf (λ came. Unit {0}) standings champions before name after) output old new (Ok count)
+        → HasCopiedAt standings champions before name output after old new (Ok count) }
+    ensures err { (standings champions : ℕ) (before after : IdleView) (name output : List ℕ) (old new : Shelves) (fault : RestoreFault)
+        → RestoreAnswer (CallsOf (λ came. Unit {0}) standings champions before name after) output old new (Err fault)
+        → (new.files.held ≡ old.files.held) ⊎ HasCopiedAt standings champions before name output after old new (Err fault) }
 {}

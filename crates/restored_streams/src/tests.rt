@@ -9,5 +9,6 @@ fn each_law_is_called(_rt: HostRuntime) -> Result<(), Fail> {
     leaves_a_front_of_what_was_read();
     whole_objects_show_no_damage();
     collisions_stay();
+    copies_what_is_retained();
     Ok(())
 }
