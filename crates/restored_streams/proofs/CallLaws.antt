@@ -1,5 +1,5 @@
 -- What a restore that answered gave back.
-use Rattle.std.proofs.Common.{◌≡◌, ◌⊎◌, ℕ, true, List, [], ◌∷◌, ◌++◌, map, Some, sym, ap, ◌∙◌, subst, inl, inr, append_assoc, Contains}
+use Rattle.std.proofs.Common.{◌≡◌, ◌⊎◌, ℕ, true, List, [], ◌∷◌, ◌++◌, Some, sym, ap, ◌∙◌, subst, inl, inr, append_assoc, Contains}
 use Rattle.std.specs.Prelude.{Result, Ok, Err}
 use Rattle.std.specs.List.{concat}
 use Rattle.ss_base.specs.declared.profile.Numbers.{Numbers}
@@ -9,6 +9,7 @@ use Rattle.history.specs.Sessions.{is_retained}
 use Rattle.store_core.specs.declared.values.Looked.{Looked}
 use Rattle.store_core.specs.View.{StateView, KeptView, past_of, stream_kept, Adds}
 use Rattle.history_calls.specs.Tokens.{IdleView}
+use Rattle.history_calls.specs.Turn.{IsTurn}
 use Rattle.depot.specs.declared.fault.RestoreFault.{RestoreFault}
 use Rattle.depot.specs.declared.fault.RestoreFault.TheVariants.{Exists}
 use Rattle.outside.specs.Shelf.{Objects}
@@ -131,21 +132,26 @@ seen_later : (turn reading last after : StateView) (look ended : Entry) (came : 
 seen_later turn reading last after look ended came first more second =
     let one : after.entries ≡ last.entries ++ ended ∷ [] = ap (λ (v : StateView). v.entries) second.added in
     let two : last.entries ≡ reading.entries ++ came = ap (λ (v : StateView). v.entries) more in
-    let three : reading.entries ≡ turn.entries ++ look ∷ [] = ap (λ (v : StateView). v.entries) first.added in
-    ((look ∷ []) ++ came ++ (ended ∷ []),
-    one ∙ ap (λ (l : List Entry). l ++ ended ∷ []) (two ∙ ap (λ (l : List Entry). l ++ came) three)
-    ∙ ap (λ (l : List Entry). l ++ ended ∷ []) (append_assoc turn.entries (look ∷ []) came)
-    ∙ append_assoc turn.entries ((look ∷ []) ++ came) (ended ∷ []))
+    let three : reading.entries ≡ turn.entries ++ look ∷ [] = ap (λ (v : StateView). v.entries) first.added in (
+      (look ∷ []) ++ came ++ (ended ∷ []),
+      one ∙ ap (λ (l : List Entry). l ++ ended ∷ []) (two ∙ ap (λ (l : List Entry). l ++ came) three)
+          ∙ ap (λ (l : List Entry). l ++ ended ∷ []) (append_assoc turn.entries (look ∷ []) came)
+          ∙ append_assoc turn.entries ((look ∷ []) ++ came) (ended ∷ []),
+    )
 
-read_at : (standings champions : ℕ) (before after : IdleView) (name output : List ℕ) (old new : Shelves) (result : Result ℕ RestoreFault) (found : Looked) → HasReadStream (λ came. Unit {0}) standings champions before name after found → StreamCopy output old new found.manifests.items result → HasCopiedAt standings champions before name output after old new result
-read_at standings champions before after name output old new result found did copy =
+-- beside others of one kind is beside any
+beside_any : (others : List Entry → Type 0) (standings champions author : ℕ) (seen turn : StateView) → IsTurn others standings champions author seen turn → IsTurn (λ came. Unit {0}) standings champions author seen turn
+beside_any others standings champions author seen turn is = record { came = is.came; by_others = tt; not_own = is.not_own; turn_is = is.turn_is; legal = is.legal }
+
+read_at : (others : List Entry → Type 0) (standings champions : ℕ) (before after : IdleView) (name output : List ℕ) (old new : Shelves) (result : Result ℕ RestoreFault) (found : Looked) → HasReadStream others standings champions before name after found → StreamCopy output old new found.manifests.items result → HasCopiedAt standings champions before name output after old new result
+read_at others standings champions before after name output old new result found did copy =
     let look = did.looked.at_turn in
     let ending = did.ended.at_turn in
     let is = look_found look.turn did.reading.seen before.author name did.reading.looked look.done in
     let more = seen_later look.turn did.reading.seen ending.turn after.seen _ _ ending.is_turn.came look.done.2 ending.is_turn.turn_is ending.done in
     record {
       turn = look.turn;
-      is_turn = look.is_turn;
+      is_turn = beside_any others standings champions before.author before.seen look.turn look.is_turn;
       later = more.0;
       goes_on = more.1;
       session = did.reading.looked.session;
@@ -154,14 +160,14 @@ read_at standings champions before after name output old new result found did co
       copy = subst (λ (ks : List KeptView). StreamCopy output old new ks result) (ap (λ (l : Looked). l.manifests.items) (sym did.found_is) ∙ is.manifests) copy;
     }
 
-pub ok_beside : (standings champions count : ℕ) (before after : IdleView) (name output : List ℕ) (old new : Shelves) → RestoreAnswer (CallsOf (λ came. Unit {0}) standings champions before name after) output old new (Ok count) → HasCopiedAt standings champions before name output after old new (Ok count)
-ok_beside standings champions count before after name output old new (not_asked why is calls failed same) = absurd (cc)
-ok_beside standings champions count before after name output old new (exists is calls there same) = absurd (cc)
-ok_beside standings champions count before after name output old new (not_looked why is calls absent same) = absurd (cc)
-ok_beside standings champions count before after name output old new (copied found calls absent copy) = read_at standings champions before after name output old new (Ok count) found calls copy
+pub ok_beside : (others : List Entry → Type 0) (standings champions count : ℕ) (before after : IdleView) (name output : List ℕ) (old new : Shelves) → RestoreAnswer (CallsOf others standings champions before name after) output old new (Ok count) → HasCopiedAt standings champions before name output after old new (Ok count)
+ok_beside others standings champions count before after name output old new (not_asked why is calls failed same) = absurd (cc)
+ok_beside others standings champions count before after name output old new (exists is calls there same) = absurd (cc)
+ok_beside others standings champions count before after name output old new (not_looked why is calls absent same) = absurd (cc)
+ok_beside others standings champions count before after name output old new (copied found calls absent copy) = read_at others standings champions before after name output old new (Ok count) found calls copy
 
-pub err_beside : (standings champions : ℕ) (before after : IdleView) (name output : List ℕ) (old new : Shelves) (fault : RestoreFault) → RestoreAnswer (CallsOf (λ came. Unit {0}) standings champions before name after) output old new (Err fault) → (new.files.held ≡ old.files.held) ⊎ HasCopiedAt standings champions before name output after old new (Err fault)
-err_beside standings champions before after name output old new fault (not_asked why is calls failed same) = inl failed.objects
-err_beside standings champions before after name output old new fault (exists is calls there same) = inl (ap (λ (s : Shelves). s.files.held) same)
-err_beside standings champions before after name output old new fault (not_looked why is calls absent same) = inl (ap (λ (s : Shelves). s.files.held) same)
-err_beside standings champions before after name output old new fault (copied found calls absent copy) = inr (read_at standings champions before after name output old new (Err fault) found calls copy)
+pub err_beside : (others : List Entry → Type 0) (standings champions : ℕ) (before after : IdleView) (name output : List ℕ) (old new : Shelves) (fault : RestoreFault) → RestoreAnswer (CallsOf others standings champions before name after) output old new (Err fault) → (new.files.held ≡ old.files.held) ⊎ HasCopiedAt standings champions before name output after old new (Err fault)
+err_beside others standings champions before after name output old new fault (not_asked why is calls failed same) = inl failed.objects
+err_beside others standings champions before after name output old new fault (exists is calls there same) = inl (ap (λ (s : Shelves). s.files.held) same)
+err_beside others standings champions before after name output old new fault (not_looked why is calls absent same) = inl (ap (λ (s : Shelves). s.files.held) same)
+err_beside others standings champions before after name output old new fault (copied found calls absent copy) = inr (read_at others standings champions before after name output old new (Err fault) found calls copy)
