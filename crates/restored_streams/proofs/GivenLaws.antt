@@ -14,12 +14,12 @@ use Rattle.store_core.specs.View.{kept, stream_kept}
 use Rattle.outside.specs.Shelf.{Objects, Given}
 use Rattle.outside.specs.Views.{ShelfView}
 use Rattle.stored_streams.specs.Streams.{Streams}
-use Rattle.stored_streams.specs.Collision.{Collide}
+use Rattle.stored_streams.specs.Collision.{IsHashed, Collide}
 use Rattle.stored_streams.specs.Reads.{Reads, IsReadOf, IsGiven}
 use Rattle.stored_streams.specs.Reads.Reads.{recorded, held}
 use Rattle.restore.specs.Reads.{Listed, ChunkRead, after_chunk, after_chunks, ManifestRead, after_load, after_manifest, after_manifests, AreManifestsRead, bytes_of_chunks, bytes_of_manifests, text_of}
 use Rattle.restore.specs.Damage.{load_read, chunk_read}
-use Rattle.restored_streams.specs.Restored.{AreRecorded, Tells}
+use Rattle.restored_streams.specs.Restored.{AreRecorded, Tells, bytes_read}
 use Rattle.restored_streams.proofs.KeptLaws.{manifest_at, IsKeptAt}
 use Rattle.restored_streams.proofs.ReadLaws.{IsReadFrom, text_is_held, chunk_is_held}
 use Rattle.restored_streams.proofs.StreamLaws.{IsKnown, AreGivenFor, IsOneOf, EachBegins, contains_in, one_manifest, stream_or}
@@ -161,3 +161,38 @@ tells_before depot after ms (recorded gave) more tells =
       among = λ read h. tells.among read (subst (λ (l : List Given). Contains l read) (sym same) (Contains-append_left first more.0 read h));
     }
 tells_before depot after ms (held objects) more tells = tells
+
+-- ---- where all that was read is among what was hashed
+
+-- a collision among what was hashed and what was hashed
+collide_once : (n : Numbers) (streams : Streams) (past : List Entry) (given : List ℕ → Type 0) → Collide n streams past (IsHashed n streams past given) → Collide n streams past given
+collide_once n streams past given c = record {
+  one = c.one;
+  other = c.other;
+  differ = c.differ;
+  same = c.same;
+  hashed = once c.one c.hashed;
+  hashed_too = once c.other c.hashed_too;
+}
+  where
+    once : (bytes : List ℕ) → IsHashed n streams past (IsHashed n streams past given) bytes → IsHashed n streams past given bytes
+    once bytes (inl chunk) = inl chunk
+    once bytes (inr (inl text)) = inr (inl text)
+    once bytes (inr (inr hashed)) = hashed
+
+hashed_for : (P : List ℕ → Type 0) (ms : List ManifestRead) (m : ManifestRead) → ((bytes : List ℕ) → Contains (bytes_read ms) bytes → P bytes) → In m ms → AreGivenFor P m
+hashed_for P ms m all among =
+    let f = λ (x : ManifestRead). text_of x ∷ bytes_of_chunks x.chunks in
+    record {
+      text = all (text_of m) (contains_in (text_of m) (bytes_read ms) (in_flat f m (text_of m) ms among (inl refl)));
+      chunks = λ bytes h. all bytes (contains_in bytes (bytes_read ms) (in_flat f m bytes ms among (inr h)));
+    }
+
+pub hashed_is_stream : (n : Numbers) (streams : Streams) (rules : Rules) (past : List Entry) (s : ℕ) (all : List Reads) (depot : ShelfView) (ms : List ManifestRead) → IsKnown n streams rules past → is_retained s past ≡ true → AreManifestsRead depot ms → map (λ (x : ManifestRead). x.kept) ms ≡ stream_kept s past → ((bytes : List ℕ) → Contains (bytes_read ms) bytes → IsHashed n streams past (IsGiven all past) bytes) → (concat (bytes_of_manifests ms) ≡ streams s) ⊎ Collide n streams past (IsGiven all past)
+hashed_is_stream n streams rules past s all depot ms known retained are kepts hashed =
+    let P = IsHashed n streams past (IsGiven all past) in
+    elim (stream_or (Collide n streams past P) n streams rules past s depot ms known retained are kepts
+    (λ k m rest one. one_manifest n streams rules past P s k m rest one.from.shelf known one.kept_is one.chosen one.from.part (hashed_for P ms m hashed one.among))) [
+      | inl is ↦ inl is
+      | inr collides ↦ inr (collide_once n streams past (IsGiven all past) collides)
+    ]

@@ -1,5 +1,5 @@
 -- What a restore that answered gave back (this project's own).
-use Rattle.std.specs.Prelude.{◌≡◌, ◌≢◌, ℕ, true, List, ◌++◌, length, Contains, Some, Result}
+use Rattle.std.specs.Prelude.{◌≡◌, ◌≢◌, ℕ, true, List, ◌∷◌, ◌++◌, length, flat_map, Contains, Some, Result}
 use Rattle.ss_base.specs.declared.ids.ManifestId.{ManifestId}
 use Rattle.ss_base.specs.declared.profile.Numbers.{Numbers}
 use Rattle.chunk_name.specs.Pieces.{name_of_bytes}
@@ -12,6 +12,7 @@ use Rattle.history_calls.specs.Tokens.{IdleView}
 use Rattle.history_calls.specs.Turn.{IsTurn}
 use Rattle.depot.specs.declared.fault.RestoreFault.{RestoreFault}
 use Rattle.depot.specs.declared.fault.RestoreFault.TheVariants.{Exists, NoStream, OutputFault, DepotFault, Damaged, Unlike, Full, Memory}
+use Rattle.restore.specs.Reads.{ManifestRead, bytes_of_chunks, text_of}
 use Rattle.restore.specs.Output.{HoldsFront}
 use Rattle.restore.specs.Copies.{Shelves, counted, StreamCopy}
 use Rattle.stored_streams.specs.Streams.{Streams, manifest_chunks}
@@ -59,6 +60,10 @@ pub record AreRecorded (before after : ShelfView) (gave : List Given) : Type 0 w
 abbrev pub Tells : ShelfView → ShelfView → Reads → Type 0
 Tells before after (recorded gave) = AreRecorded before after gave
 Tells before after (held objects) = before.held ≡ Some objects
+
+-- all bytes that were read for manifests: the text of each, and its chunks
+abbrev pub bytes_read : List ManifestRead → List (List ℕ)
+bytes_read manifests = flat_map (λ (one : ManifestRead). text_of one ∷ bytes_of_chunks one.chunks) manifests
 
 -- a chunk of the stream of a session that began
 pub record IsBegunChunk (n : Numbers) (streams : Streams) (past : List Entry) (bytes : List ℕ) : Type 0 where

@@ -14,7 +14,7 @@ ghost use Rattle.outside.specs.Shelf.{Objects};
 ghost use Rattle.outside.specs.Views.{ShelfView};
 ghost use Rattle.stored_streams.specs.Streams.{Streams};
 ghost use Rattle.stored_streams.specs.OfStreams.{IsOfStreams};
-ghost use Rattle.stored_streams.specs.Collision.{Collide};
+ghost use Rattle.stored_streams.specs.Collision.{IsHashed, Collide};
 ghost use Rattle.stored_streams.specs.Reads.{Reads, IsGiven};
 ghost use Rattle.stored_streams.specs.Whole.{IsWhole};
 ghost use Rattle.restore.specs.Reads.{ManifestRead, AreManifestsRead, after_manifests, bytes_of_manifests};
@@ -22,12 +22,13 @@ ghost use Rattle.restore.specs.Copies.{Shelves, StreamCopy};
 ghost use Rattle.restore.specs.Restores.{CallsOf, StateCalls, RestoreAnswer};
 ghost use Rattle.restore.specs.Output.{HoldsFront};
 ghost use Rattle.depot.specs.declared.fault.RestoreFault.{RestoreFault};
-ghost use Rattle.restored_streams.specs.Restored.{HoldsBytes, HasRestored, HasCopiedAt, LeavesFront, TellsNoDamage, Tells, ChunksCollide};
+ghost use Rattle.restored_streams.specs.Restored.{HoldsBytes, HasRestored, HasCopiedAt, LeavesFront, TellsNoDamage, Tells, ChunksCollide, bytes_read};
 
 /// A restore that answered gives back the stream. Where a legal history is that of some streams, what was read for a
 /// retained session is its stream, what was copied to the output is that, and a restore that answered left just this
 /// under its output name; or two different byte lists among those that were hashed have one SHA-256. The objects of the
-/// depot may be anything: it is enough that the reads are told. It runs nothing.
+/// depot may be anything: it is enough that the reads are told, or that all that was read is known to be among what was
+/// hashed. It runs nothing.
 pub fn restores_what_was_read()
     ensures read { (profile : Profile) (rules : Rules) (streams : Streams) (past : List Entry) (session : ℕ) (all : List Reads) (reads : Reads) (depot : ShelfView) (manifests : List ManifestRead)
         → is_legal rules past ≡ true
@@ -38,6 +39,15 @@ pub fn restores_what_was_read()
         → map (λ (m : ManifestRead). m.kept) manifests ≡ stream_kept session past
         → Contains all reads
         → Tells depot (after_manifests depot manifests) reads
+        → (concat (bytes_of_manifests manifests) ≡ streams session) ⊎ Collide (numbers_of profile) streams past (IsGiven all past) }
+    ensures hashed { (profile : Profile) (rules : Rules) (streams : Streams) (past : List Entry) (session : ℕ) (all : List Reads) (depot : ShelfView) (manifests : List ManifestRead)
+        → is_legal rules past ≡ true
+        → All IsEntry past
+        → IsOfStreams (numbers_of profile) streams past
+        → is_retained session past ≡ true
+        → AreManifestsRead depot manifests
+        → map (λ (m : ManifestRead). m.kept) manifests ≡ stream_kept session past
+        → ((bytes : List ℕ) → Contains (bytes_read manifests) bytes → IsHashed (numbers_of profile) streams past (IsGiven all past) bytes)
         → (concat (bytes_of_manifests manifests) ≡ streams session) ⊎ Collide (numbers_of profile) streams past (IsGiven all past) }
     ensures copied { (profile : Profile) (rules : Rules) (streams : Streams) (past : List Entry) (session count : ℕ) (all : List Reads) (reads : Reads) (output : List ℕ) (before after : Shelves)
         → is_legal rules past ≡ true
