@@ -11,3 +11,4 @@ pub mod StopLaws
 pub mod FrontLaws
 pub mod DamageLaws
 pub mod LaterLaws
+pub mod ExampleLaws

@@ -1,5 +1,5 @@
 // From what a restore copied to the stream.
-ghost use Rattle.std.specs.Prelude.{ℕ, ◌≡◌, ◌⊎◌, ◌++◌, List, map, true, Contains, Some, Ok, Err};
+ghost use Rattle.std.specs.Prelude.{ℕ, ◌≡◌, ◌⊎◌, ◌++◌, ◌∷◌, [], List, map, true, Contains, Some, Ok, Err};
 ghost use Rattle.std.specs.List.{All, concat};
 ghost use Rattle.ss_base.specs.declared.profile.Profile.{Profile};
 ghost use Rattle.ss_base.specs.Profile.{numbers_of};
@@ -22,13 +22,17 @@ ghost use Rattle.restore.specs.Copies.{Shelves, StreamCopy};
 ghost use Rattle.restore.specs.Restores.{CallsOf, StateCalls, RestoreAnswer};
 ghost use Rattle.restore.specs.Output.{HoldsFront};
 ghost use Rattle.depot.specs.declared.fault.RestoreFault.{RestoreFault};
+ghost use Rattle.chunk_name.specs.Pieces.{piece};
+ghost use Rattle.manifest_codec.specs.declared.manifest.Manifest.{Manifest};
+ghost use Rattle.stored_streams.specs.SecondBackup.{IsOneHook, the_place};
+ghost use Rattle.restored_streams.specs.Example.{IsRestorable};
 ghost use Rattle.restored_streams.specs.Restored.{HoldsBytes, HasRestored, HasCopiedAt, LeavesFront, TellsNoDamage, Tells, ChunksCollide, bytes_read};
 
 /// A restore that answered gives back the stream. Where a legal history is that of some streams, what was read for a
-/// retained session is its stream, what was copied to the output is that, and a restore that answered left just this
-/// under its output name; or two different byte lists among those that were hashed have one SHA-256. The objects of the
-/// depot may be anything: it is enough that the reads are told, or that all that was read is known to be among what was
-/// hashed. It runs nothing.
+/// retained session is its stream, and so is what was copied to the output, and what a restore that answered left under
+/// its output name; or two different byte lists among those that were hashed have one SHA-256. Nothing is asked of the
+/// depot's objects: it is enough that the reads are told, or that all that was read is among what was hashed. It runs
+/// nothing.
 pub fn restores_what_was_read()
     ensures read { (profile : Profile) (rules : Rules) (streams : Streams) (past : List Entry) (session : ℕ) (all : List Reads) (reads : Reads) (depot : ShelfView) (manifests : List ManifestRead)
         → is_legal rules past ≡ true
@@ -69,8 +73,8 @@ pub fn restores_what_was_read()
         ⊎ Collide (numbers_of profile) streams (past_of before) (IsGiven all (past_of before)) }
 {}
 
-/// The same from a depot that tells its objects, where these are whole for the history: then but two different chunks of
-/// the streams of sessions that began, with one SHA-256, are an exception. It runs nothing.
+/// The same from a depot that tells its objects, where these are whole for the history. Then the only exception is that
+/// two different chunks of the streams of sessions that began have one SHA-256. It runs nothing.
 pub fn restores_from_whole_objects()
     ensures read { (profile : Profile) (rules : Rules) (streams : Streams) (past : List Entry) (session : ℕ) (objects : Objects) (depot : ShelfView) (manifests : List ManifestRead)
         → is_legal rules past ≡ true
@@ -124,8 +128,8 @@ pub fn leaves_a_front_of_what_was_read()
         ⊎ Collide (numbers_of profile) streams (past_of before) (IsGiven all (past_of before)) }
 {}
 
-/// The same from whole objects, but for two different chunks with one SHA-256. Without exception, such a restore answers
-/// neither `Damaged` nor `Unlike`. It runs nothing.
+/// A restore from whole objects that did not answer left a front of the stream, too, unless two different chunks have one
+/// SHA-256. Without any exception, it answers neither `Damaged` nor `Unlike`. It runs nothing.
 pub fn whole_objects_show_no_damage()
     ensures copied { (profile : Profile) (rules : Rules) (streams : Streams) (past : List Entry) (session : ℕ) (objects : Objects) (output : List ℕ) (before after : Shelves) (fault : RestoreFault)
         → is_legal rules past ≡ true
@@ -168,4 +172,14 @@ pub fn copies_what_is_retained()
     ensures err { (standings champions : ℕ) (before after : IdleView) (name output : List ℕ) (old new : Shelves) (fault : RestoreFault)
         → RestoreAnswer (CallsOf (λ came. Unit {0}) standings champions before name after) output old new (Err fault)
         → (new.files.held ≡ old.files.held) ⊎ HasCopiedAt standings champions before name output after old new (Err fault) }
+{}
+
+/// What the law of what was read asks for can be had: a restore behind the first backup of a stream that is one chunk,
+/// where the chunk's name is a hook. It runs nothing.
+pub fn restored_can_be_shown()
+    ensures { (profile : Profile) (bytes : List ℕ) (manifest : Manifest)
+        → IsOneHook (numbers_of profile) bytes
+        → manifest.pieces.items ≡ piece bytes ∷ []
+        → manifest.places.items ≡ the_place ∷ []
+        → IsRestorable (numbers_of profile) bytes manifest }
 {}

@@ -10,5 +10,6 @@ fn each_law_is_called(_rt: HostRuntime) -> Result<(), Fail> {
     whole_objects_show_no_damage();
     collisions_stay();
     copies_what_is_retained();
+    restored_can_be_shown();
     Ok(())
 }
