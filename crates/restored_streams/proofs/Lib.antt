@@ -12,3 +12,4 @@ pub mod FrontLaws
 pub mod DamageLaws
 pub mod LaterLaws
 pub mod ExampleLaws
+pub mod AnsweredLaws

@@ -1,2 +1,3 @@
 pub mod Restored
 pub mod Example
+pub mod Complete

@@ -1,12 +1,12 @@
 // From what a restore copied to the stream.
-ghost use Rattle.std.specs.Prelude.{ℕ, ◌≡◌, ◌⊎◌, ◌++◌, ◌∷◌, [], List, map, true, Contains, Some, Ok, Err};
+ghost use Rattle.std.specs.Prelude.{ℕ, ◌≡◌, ◌⊎◌, ◌++◌, ◌∷◌, [], List, map, true, false, Contains, Some, Result, Ok, Err};
 ghost use Rattle.std.specs.List.{All, concat};
 ghost use Rattle.ss_base.specs.declared.profile.Profile.{Profile};
 ghost use Rattle.ss_base.specs.Profile.{numbers_of};
 ghost use Rattle.journal_entry.specs.declared.entry.Entry.{Entry};
 ghost use Rattle.journal_entry.specs.Bounds.{IsEntry};
 ghost use Rattle.history.specs.declared.rules.Rules.{Rules};
-ghost use Rattle.history.specs.Sessions.{is_retained};
+ghost use Rattle.history.specs.Sessions.{retained, is_retained};
 ghost use Rattle.history.specs.Legal.{is_legal};
 ghost use Rattle.store_core.specs.View.{StateView, past_of, stream_kept};
 ghost use Rattle.history_calls.specs.Tokens.{IdleView};
@@ -19,13 +19,15 @@ ghost use Rattle.stored_streams.specs.Reads.{Reads, IsGiven};
 ghost use Rattle.stored_streams.specs.Whole.{IsWhole};
 ghost use Rattle.restore.specs.Reads.{ManifestRead, AreManifestsRead, after_manifests, bytes_of_manifests};
 ghost use Rattle.restore.specs.Copies.{Shelves, StreamCopy};
-ghost use Rattle.restore.specs.Restores.{CallsOf, StateCalls, RestoreAnswer};
+ghost use Rattle.restore.specs.Restores.{CallsOf, StateCalls, RestoreAnswer, RestoreCause};
 ghost use Rattle.restore.specs.Output.{HoldsFront};
 ghost use Rattle.depot.specs.declared.fault.RestoreFault.{RestoreFault};
 ghost use Rattle.chunk_name.specs.Pieces.{piece};
 ghost use Rattle.manifest_codec.specs.declared.manifest.Manifest.{Manifest};
 ghost use Rattle.stored_streams.specs.SecondBackup.{IsOneHook, the_place};
 ghost use Rattle.restored_streams.specs.Example.{IsRestorable};
+ghost use Rattle.restored_streams.specs.Complete.{NoneFailed, IsAnswered};
+ghost use Rattle.std.specs.FinMap.{contains_key};
 ghost use Rattle.restored_streams.specs.Restored.{HoldsBytes, HasRestored, HasCopiedAt, LeavesFront, TellsNoDamage, Tells, ChunksCollide, bytes_read};
 
 /// A restore that answered gives back the stream. Where a legal history is that of some streams, what was read for a
@@ -149,6 +151,24 @@ pub fn whole_objects_show_no_damage()
         → old.depot.held ≡ Some objects
         → TellsNoDamage fault
         × (LeavesFront streams (past_of before) name output old.files new.files ⊎ ChunksCollide (numbers_of profile) streams (past_of before)) }
+{}
+
+/// A restore that nothing keeps off is answered: of a retained name, from whole objects, to an output that is told to be
+/// absent, with no count of faults risen. Else its look had no room in the journal, or memory was wanted. It runs nothing.
+pub fn restores_answer()
+    ensures { (profile : Profile) (rules : Rules) (streams : Streams) (objects files : Objects) (before after : StateView) (author session : ℕ) (name output : List ℕ) (old new : Shelves) (result : Result ℕ RestoreFault)
+        → is_legal rules (past_of before) ≡ true
+        → All IsEntry (past_of before)
+        → IsOfStreams (numbers_of profile) streams (past_of before)
+        → IsWhole (numbers_of profile) streams (past_of before) objects
+        → retained name (past_of before) ≡ Some session
+        → RestoreAnswer (StateCalls before author name after) output old new result
+        → RestoreCause output old new result
+        → old.depot.held ≡ Some objects
+        → old.files.held ≡ Some files
+        → contains_key files output ≡ false
+        → NoneFailed old new
+        → IsAnswered before after result }
 {}
 
 /// A collision of a history stays one as the history goes on. It runs nothing.

@@ -5,7 +5,7 @@ mod laws;
 
 pub use laws::{
     collisions_stay, copies_what_is_retained, leaves_a_front_of_what_was_read,
-    restored_can_be_shown, restores_from_whole_objects, restores_what_was_read,
+    restored_can_be_shown, restores_answer, restores_from_whole_objects, restores_what_was_read,
     whole_objects_show_no_damage,
 };
 

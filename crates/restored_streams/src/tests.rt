@@ -11,5 +11,6 @@ fn each_law_is_called(_rt: HostRuntime) -> Result<(), Fail> {
     collisions_stay();
     copies_what_is_retained();
     restored_can_be_shown();
+    restores_answer();
     Ok(())
 }
