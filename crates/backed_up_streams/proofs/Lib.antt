@@ -1,0 +1,5 @@
+pub mod AloneLaws
+pub mod InputLaws
+pub mod SegmentLaws
+pub mod ContentLaws
+pub mod BackupLaws

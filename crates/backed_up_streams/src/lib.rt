@@ -1,0 +1,10 @@
+//! What a backup says of itself, as what its history stores of its streams. It runs nothing: each call has a law as its
+//! contract.
+#![tactic(auto)]
+
+mod laws;
+
+pub use laws::contents_of_a_backup;
+
+#[cfg(test)]
+mod tests;

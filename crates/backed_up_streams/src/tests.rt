@@ -1,0 +1,9 @@
+use super::*;
+use std::test::Fail;
+
+// The laws run nothing.
+#[test]
+fn each_law_is_called(_rt: HostRuntime) -> Result<(), Fail> {
+    contents_of_a_backup();
+    Ok(())
+}
