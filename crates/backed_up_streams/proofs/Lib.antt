@@ -3,3 +3,5 @@ pub mod InputLaws
 pub mod SegmentLaws
 pub mod ContentLaws
 pub mod BackupLaws
+pub mod KeptLaws
+pub mod LoadLaws

@@ -9,7 +9,7 @@ use Rattle.segment_reader.specs.SegmentsOf.{segments_of}
 use Rattle.stored_streams.specs.Streams.{Streams, segment_count, manifest_chunks, manifest_pieces}
 
 -- the item behind a front
-item_behind : {X : Type 0} (front : List X) (x : X) (rest : List X) (d : X) → slice_index_or (front ++ x ∷ rest) (length front) d ≡ x
+pub item_behind : {X : Type 0} (front : List X) (x : X) (rest : List X) (d : X) → slice_index_or (front ++ x ∷ rest) (length front) d ≡ x
 item_behind [] x rest d = refl
 item_behind (y ∷ front) x rest d = item_behind front x rest d
 

@@ -1,0 +1,269 @@
+-- What a session's loads gave, and what it stores against them.
+use Rattle.std.proofs.Common.{◌≡◌, ℕ, ◌==◌, ◌+◌, ◌*◌, ◌⊎◌, true, List, [], ◌∷◌, ◌++◌, length, Option, Some, None, refl, sym, ap, ◌∙◌, subst, inl, inr, arith, append_assoc, length-append}
+use mathlib.Core.List.{map}
+use Rattle.std.specs.List.{slice_index_or}
+use Rattle.std.specs.Option.{unwrap_or, option_map}
+use Rattle.std.proofs.lemmas.List.{append-nil}
+use Rattle.ss_base.specs.declared.ids.ManifestId.{ManifestId}
+use Rattle.ss_base.specs.declared.name.Name.{Name}
+use Rattle.ss_base.specs.declared.name.Piece.{Piece}
+use Rattle.ss_base.specs.declared.profile.Numbers.{Numbers}
+use Rattle.ss_base.specs.Profile.{numbers_of}
+use Rattle.ss_base.specs.Ids.{same_manifest, has_manifest}
+use Rattle.ss_base.proofs.IdLaws.{same_manifest-self}
+use Rattle.ss_base.proofs.MemberLaws.{In, in_any, count_one}
+use Rattle.chunk_name.specs.Pieces.{piece, pieces, name_of_bytes}
+use Rattle.hook_sampler.specs.Hooks.{hooks}
+use Rattle.manifest_codec.specs.declared.manifest.Manifest.{Manifest}
+use Rattle.manifest_codec.specs.Text.{manifest_text}
+use Rattle.container_file.specs.declared.container_end.ContainerEnd.{ContainerEnd}
+use Rattle.segment_plan.specs.Plan.{Located, places_against, end_against}
+use Rattle.segment_plan.specs.Planned.{located}
+use Rattle.segment_reader.specs.SegmentsOf.{segments_of}
+use Rattle.outside.specs.Views.{ShelfView}
+use Rattle.journal_entry.specs.declared.entry.Entry.{Entry}
+use Rattle.journal_entry.specs.declared.entry.Point.{Point}
+use Rattle.journal_entry.specs.declared.entry.Point.TheVariants.{Begin, Choose, Commit, Finish, Abort}
+use Rattle.history.specs.declared.rules.Rules.{Rules}
+use Rattle.history.specs.Legal.{is_legal}
+use Rattle.history.specs.Need.{commits_manifest}
+use Rattle.history.specs.Sessions.{commits, commits_of, has, pending_champions, is_pending}
+use Rattle.history_laws.proofs.LiveLaws.{pending_committed}
+use Rattle.store_core.specs.declared.values.Stored.{Stored}
+use Rattle.store_core.specs.View.{StateView, KeptView, past_of, kept, all_kept, made}
+use Rattle.depot.specs.Loading.{IsLoaded}
+use Rattle.segment_store.specs.Loads.{after_load, after_loads, AreLoaded}
+use Rattle.segment_store.specs.Stored.{after_segment, IsStoredOf}
+use Rattle.stored_streams.specs.Streams.{Streams, manifest_chunks, manifest_pieces}
+use Rattle.stored_streams.specs.Plans.{Planned, planned_places, end_of, plan_for, plans_of}
+use Rattle.stored_streams.specs.OfStreams.{next_of, StoresSegment}
+use Rattle.stored_streams.specs.Loads.{Loads, loaded_text, loaded_after, loaded_plans, IsLoadOf, AreLoadsOf, LoadedOf, StoresLoaded}
+use Rattle.backed_up_streams.proofs.ContentLaws.{self}
+use Rattle.backed_up_streams.proofs.SegmentLaws.{item_behind, next_chunks}
+use Rattle.backed_up_streams.proofs.KeptLaws.{IsKept, kept_there, all_kept-first, count_behind, end_newest, end_at_first}
+
+-- loads by the numbers of their commits
+abbrev pub loads_of : List (List Located) → Loads
+loads_of lists id = slice_index_or lists id.seq []
+
+abbrev pub text_loaded : Manifest → List ℕ
+text_loaded manifest = manifest_text manifest.pieces.items manifest.places.items
+
+abbrev pub commit_point : ℕ → ℕ → Stored → Point
+commit_point session seq stored =
+    Commit (record { session = session; seq = seq }) stored.content stored.text stored.chunks stored.bytes stored.fresh stored.fresh_bytes stored.uses.items
+
+module _ (n : Numbers) (streams : Streams) (older : List Entry) (author session : ℕ) (Told : List (List ℕ) → List Entry → List Planned → ShelfView → Type 0) where
+  -- behind one load: the texts that reads gave are these or more, and the loaded one is among them or was planned
+  pub record LoadTold (texts : List (List ℕ)) (newer : List Entry) (plans : List Planned) (shelf : ShelfView) (view : KeptView) (manifest : Manifest) : Type 0 where
+    pub gave : List (List ℕ)
+    pub older_too : (b : List ℕ) → In b texts → In b gave
+    pub told : Told gave newer plans (after_load shelf view manifest)
+    pub source : In (text_loaded manifest) gave ⊎ (text_loaded manifest ≡ manifest_text (manifest_pieces n streams view.id) (planned_places view.id plans))
+
+  -- what is known of the depot's shelf while the session goes on: it stays so behind a load, a choice and a commit
+  pub record IsTelling : Type 0 where
+    pub load : (texts : List (List ℕ)) (newer : List Entry) (plans : List Planned) (shelf : ShelfView) (view : KeptView) (manifest : Manifest)
+        → kept view.id (newer ++ older) ≡ Some view → IsLoaded shelf (after_load shelf view manifest) view manifest
+        → Told texts newer plans shelf → LoadTold texts newer plans shelf view manifest
+    pub choose : (texts : List (List ℕ)) (newer : List Entry) (plans : List Planned) (shelf : ShelfView) (chosen : List Name) (ids : List ManifestId)
+        → Told texts newer plans shelf → Told texts (made author (Choose session chosen ids) ∷ newer) plans shelf
+    pub commit : (rules : Rules) (texts : List (List ℕ)) (newer : List Entry) (plans : List Planned) (shelf : ShelfView) (seq : ℕ) (chunks : List (List ℕ)) (against : List Located) (stored : Stored)
+        → is_legal rules (newer ++ older) ≡ true → commits_of session (newer ++ older) ≡ seq
+        → manifest_chunks n streams (record { session = session; seq = seq }) ≡ chunks
+        → IsStoredOf chunks against (end_of session plans) n.room stored
+        → Told texts newer plans shelf
+        → Told texts (made author (commit_point session seq stored) ∷ newer) (plan_for n streams (record { session = session; seq = seq }) against plans ∷ plans)
+        (after_segment shelf (record { session = session; seq = seq }) chunks against (end_of session plans) n.room)
+
+  module _ (telling : IsTelling) where
+    -- ---- the loads of a list of champions
+
+    pub record LoadsTold (texts : List (List ℕ)) (newer : List Entry) (plans : List Planned) (shelf : ShelfView) (ids : List ManifestId) (manifests : List Manifest) : Type 0 where
+      pub gave : List (List ℕ)
+      pub older_too : (b : List ℕ) → In b texts → In b gave
+      pub told : Told gave newer plans shelf
+      pub are : (all : List (List ℕ)) → ((b : List ℕ) → In b gave → In b all) → AreLoadsOf n streams (λ b. In b all) (newer ++ older) plans ids (located manifests)
+
+    one_load : (all : List (List ℕ)) (past : List Entry) (plans : List Planned) (id : ManifestId) (manifest : Manifest) (shelf after : ShelfView) (is : IsKept id past) → IsLoaded shelf after is.view manifest
+        → In (text_loaded manifest) all ⊎ (text_loaded manifest ≡ manifest_text (manifest_pieces n streams is.view.id) (planned_places is.view.id plans))
+        → IsLoadOf n streams (λ b. In b all) past plans id (record { pieces = manifest.pieces.items; places = manifest.places.items })
+    one_load all past plans id manifest shelf after is loaded source = record {
+      manifest = loaded.like.manifest;
+      digest = λ view kept_is. loaded.digest ∙ ap (λ (o : Option KeptView). (unwrap_or o is.view).text) (sym is.kept_is ∙ kept_is);
+      source = subst (λ (i : ManifestId). In (text_loaded manifest) all ⊎ (text_loaded manifest ≡ manifest_text (manifest_pieces n streams i) (planned_places i plans))) is.same source;
+    }
+
+    source_more : (gave all : List (List ℕ)) (text : List ℕ) (P : Type 0) → ((b : List ℕ) → In b gave → In b all) → In text gave ⊎ P → In text all ⊎ P
+    source_more gave all text P more (inl there) = inl (more text there)
+    source_more gave all text P more (inr planned) = inr planned
+
+    pub all_loads : (texts : List (List ℕ)) (newer : List Entry) (plans : List Planned) (shelf : ShelfView) (ids : List ManifestId) (manifests : List Manifest)
+        → ((id : ManifestId) → In id ids → has (commits_manifest id) (newer ++ older) ≡ true)
+        → AreLoaded shelf (all_kept ids (newer ++ older)) manifests
+        → Told texts newer plans shelf → LoadsTold texts newer plans (after_loads shelf (all_kept ids (newer ++ older)) manifests) ids manifests
+    all_loads texts newer plans shelf [] [] committed are told = record { gave = texts; older_too = λ b there. there; told = told; are = λ all more. tt }
+    all_loads texts newer plans shelf [] (manifest ∷ manifests) committed are told = absurd are
+    all_loads texts newer plans shelf (id ∷ ids) [] committed are told =
+        let past = newer ++ older in
+        let is = kept_there id past (committed id (inl refl)) in
+        let kepts = all_kept-first id ids past is.view is.kept_is in
+        absurd (subst (λ (ks : List KeptView). AreLoaded shelf ks []) kepts are)
+    all_loads texts newer plans shelf (id ∷ ids) (manifest ∷ manifests) committed are told =
+        let past = newer ++ older in
+        let is = kept_there id past (committed id (inl refl)) in
+        let kepts = all_kept-first id ids past is.view is.kept_is in
+        let loaded = subst (λ (ks : List KeptView). AreLoaded shelf ks (manifest ∷ manifests)) kepts are in
+        let own_kept : kept is.view.id past ≡ Some is.view = ap (λ (i : ManifestId). kept i past) is.same ∙ is.kept_is in
+        let one = telling.load texts newer plans shelf is.view manifest own_kept loaded.0 told in
+        let rest = all_loads one.gave newer plans (after_load shelf is.view manifest) ids manifests (λ i there. committed i (inr there)) loaded.1 one.told in
+        record {
+          gave = rest.gave;
+          older_too = λ b there. rest.older_too b (one.older_too b there);
+          told = subst (λ (ks : List KeptView). Told rest.gave newer plans (after_loads shelf ks (manifest ∷ manifests))) (sym kepts) rest.told;
+          are = λ all more. (
+            one_load all past plans id manifest shelf (after_load shelf is.view manifest) is loaded.0
+            (source_more one.gave all (text_loaded manifest) (text_loaded manifest ≡ manifest_text (manifest_pieces n streams is.view.id) (planned_places is.view.id plans)) (λ b there. more b (rest.older_too b there)) one.source),
+            rest.are all more,
+          );
+        }
+
+    -- ---- a session so far
+
+    pub record IsSoFar (count : ℕ) (past : List Entry) (shelf : ShelfView) (end : ContainerEnd) : Type 0 where
+      pub newer : List Entry
+      pub past_is : past ≡ newer ++ older
+      pub counted : commits_of session (newer ++ older) ≡ count
+      pub lists : List (List Located)
+      pub lists_count : length lists ≡ count
+      pub plans : List Planned
+      pub plans_are : (tail : List (List Located)) → loaded_plans n streams (loads_of (lists ++ tail)) newer older ≡ plans
+      pub end_is : end_of session plans ≡ end
+      pub texts : List (List ℕ)
+      pub told : Told texts newer plans shelf
+      pub stores : (tail : List (List Located)) (all : List (List ℕ)) → ((b : List ℕ) → In b texts → In b all) → StoresLoaded n streams (loads_of (lists ++ tail)) (λ b. In b all) newer older
+
+    -- a choice
+    pub chosen_so_far : (count : ℕ) (past : List Entry) (shelf : ShelfView) (end : ContainerEnd) (chosen : List Name) (ids : List ManifestId) → IsSoFar count past shelf end → IsSoFar count (made author (Choose session chosen ids) ∷ past) shelf end
+    unfolding loaded_plans loaded_after commits_of commits
+    chosen_so_far count past shelf end chosen ids so =
+        let choice = made author (Choose session chosen ids) in
+        record {
+          newer = choice ∷ so.newer;
+          past_is = ap (λ (p : List Entry). choice ∷ p) so.past_is;
+          counted = so.counted;
+          lists = so.lists;
+          lists_count = so.lists_count;
+          plans = so.plans;
+          plans_are = so.plans_are;
+          end_is = so.end_is;
+          texts = so.texts;
+          told = telling.choose so.texts so.newer so.plans shelf chosen ids so.told;
+          stores = λ tail all more. (so.stores tail all more, tt);
+        }
+
+    -- ---- the segment behind a choice
+
+    module _ (front rest : List (List (List ℕ))) (chunks : List (List ℕ)) (are : segments_of n (streams session) ≡ front ++ chunks ∷ rest) (rules : Rules) (past : List Entry) (legal : is_legal rules past ≡ true) (shelf : ShelfView) (end : ContainerEnd) (so : IsSoFar (length front) past shelf end) (ids : List ManifestId) (pending_are : pending_champions session past ≡ ids) (manifests : List Manifest) (loaded : AreLoaded shelf (all_kept ids past) manifests) where
+      abbrev next : ManifestId
+      next = record { session = session; seq = length front }
+
+      abbrev before : List Entry
+      before = so.newer ++ older
+
+      abbrev against : List Located
+      against = located manifests
+
+      champion_there : (id : ManifestId) → In id ids → has (commits_manifest id) before ≡ true
+      unfolding has_manifest
+      champion_there id there =
+          subst (λ (p : List Entry). has (commits_manifest id) p ≡ true) so.past_is
+          (pending_committed rules session id past legal
+          (subst (λ (all : List ManifestId). has_manifest id all ≡ true) (sym pending_are) (in_any (same_manifest id) id ids there (same_manifest-self id))))
+
+      loads_now : LoadsTold so.texts so.newer so.plans (after_loads shelf (all_kept ids before) manifests) ids manifests
+      loads_now = all_loads so.texts so.newer so.plans shelf ids manifests champion_there (subst (λ (p : List Entry). AreLoaded shelf (all_kept ids p) manifests) so.past_is loaded) so.told
+
+      ids_now : pending_champions session before ≡ ids
+      ids_now = ap (pending_champions session) (sym so.past_is) ∙ pending_are
+
+      the_chunks : manifest_chunks n streams next ≡ chunks
+      the_chunks = next_chunks n streams session front rest chunks are
+
+      -- what was loaded for this segment
+      list_now : (tail : List (List Located)) → loads_of (so.lists ++ against ∷ tail) next ≡ against
+      list_now tail = ap (λ (k : ℕ). slice_index_or (so.lists ++ against ∷ tail) k []) (sym so.lists_count) ∙ item_behind so.lists against tail []
+
+      one_list : (tail : List (List Located)) → (so.lists ++ against ∷ []) ++ tail ≡ so.lists ++ against ∷ tail
+      one_list tail = append_assoc so.lists (against ∷ []) tail
+
+      loads_said : (all : List (List ℕ)) → ((b : List ℕ) → In b loads_now.gave → In b all) → (tail : List (List Located)) → (plans : List Planned) → plans ≡ so.plans
+          → AreLoadsOf n streams (λ b. In b all) before plans (pending_champions session before) (loads_of (so.lists ++ against ∷ tail) next)
+      loads_said all more tail plans same =
+          subst (λ (ps : List Planned). AreLoadsOf n streams (λ b. In b all) before ps (pending_champions session before) (loads_of (so.lists ++ against ∷ tail) next)) (sym same)
+          (subst (λ (cs : List ManifestId). AreLoadsOf n streams (λ b. In b all) before so.plans cs (loads_of (so.lists ++ against ∷ tail) next)) (sym ids_now)
+          (subst (λ (ls : List Located). AreLoadsOf n streams (λ b. In b all) before so.plans ids ls) (sym (list_now tail)) (loads_now.are all more)))
+
+      end_laid : (plan_for n streams next against so.plans).end ≡ end_against chunks against end n.room
+      unfolding plan_for
+      end_laid = λ i. end_against (the_chunks i) against (so.end_is i) n.room
+
+      next_session : (ls : List Located) → ((plan_for n streams next ls so.plans).id.session == session) ≡ true
+      unfolding plan_for
+      next_session ls = self session
+
+      module _ (stored : Stored) (of : IsStoredOf chunks against end n.room stored) where
+        of_plans : IsStoredOf chunks against (end_of session so.plans) n.room stored
+        of_plans = subst (λ (e : ContainerEnd). IsStoredOf chunks against e n.room stored) (sym so.end_is) of
+
+        stores_it : StoresSegment n streams next against so.plans stored.text stored.fresh stored.fresh_bytes stored.uses.items
+        unfolding plan_for manifest_pieces
+        stores_it =
+            let is = subst (λ (cs : List (List ℕ)). IsStoredOf cs against (end_of session so.plans) n.room stored) (sym the_chunks) of_plans in
+            record { fresh_count = is.fresh_count; fresh_sum = is.fresh_len; containers = is.uses; digest = is.text }
+
+        stores_said : (tail : List (List Located)) → (plans : List Planned) → plans ≡ so.plans → StoresSegment n streams next (loads_of (so.lists ++ against ∷ tail) next) plans stored.text stored.fresh stored.fresh_bytes stored.uses.items
+        stores_said tail plans same =
+            subst (λ (ps : List Planned). StoresSegment n streams next (loads_of (so.lists ++ against ∷ tail) next) ps stored.text stored.fresh stored.fresh_bytes stored.uses.items) (sym same)
+            (subst (λ (ls : List Located). StoresSegment n streams next ls so.plans stored.text stored.fresh stored.fresh_bytes stored.uses.items) (sym (list_now tail)) stores_it)
+
+        abbrev commit_it : Entry
+        commit_it = made author (commit_point session (length front) stored)
+
+        plans_now : (tail : List (List Located)) → loaded_plans n streams (loads_of (so.lists ++ against ∷ tail)) (commit_it ∷ so.newer) older ≡ plan_for n streams next against so.plans ∷ so.plans
+        unfolding loaded_plans loaded_after
+        plans_now tail = λ i. plan_for n streams next (list_now tail i) (so.plans_are (against ∷ tail) i) ∷ so.plans_are (against ∷ tail) i
+
+        stores_now : (tail : List (List Located)) (all : List (List ℕ)) → ((b : List ℕ) → In b loads_now.gave → In b all) → StoresLoaded n streams (loads_of (so.lists ++ against ∷ tail)) (λ b. In b all) (commit_it ∷ so.newer) older
+        stores_now tail all more =
+            let plans = loaded_plans n streams (loads_of (so.lists ++ against ∷ tail)) so.newer older in (
+              so.stores (against ∷ tail) all (λ b there. more b (loads_now.older_too b there)),
+              (loads_said all more tail plans (so.plans_are (against ∷ tail)), stores_said tail plans (so.plans_are (against ∷ tail))),
+            )
+
+        pub committed_so_far : IsSoFar (length (front ++ chunks ∷ [])) (commit_it ∷ past) (after_segment (after_loads shelf (all_kept ids past) manifests) next chunks against end n.room) (end_against chunks against end n.room)
+        unfolding commits_of commits
+        committed_so_far =
+            let one = count_one (λ (x : Entry). commits session x.point) commit_it before (self session) in
+            let counted = so.counted in
+            let longer = length-append front (chunks ∷ []) in
+            let lists_count = so.lists_count in
+            let lists_longer = length-append so.lists (against ∷ []) in
+            let told =
+            telling.commit rules loads_now.gave so.newer so.plans (after_loads shelf (all_kept ids before) manifests) (length front) chunks against stored
+            (subst (λ (p : List Entry). is_legal rules p ≡ true) so.past_is legal) so.counted the_chunks of_plans loads_now.told in
+            record {
+              newer = commit_it ∷ so.newer;
+              past_is = ap (λ (p : List Entry). commit_it ∷ p) so.past_is;
+              counted = omega (arith, one, counted, longer);
+              lists = so.lists ++ against ∷ [];
+              lists_count = omega (arith, lists_count, longer, lists_longer);
+              plans = plan_for n streams next against so.plans ∷ so.plans;
+              plans_are = λ tail. ap (λ (ls : List (List Located)). loaded_plans n streams (loads_of ls) (commit_it ∷ so.newer) older) (one_list tail) ∙ plans_now tail;
+              end_is = end_newest (plan_for n streams next against so.plans) session so.plans (next_session against) ∙ end_laid;
+              texts = loads_now.gave;
+              told =
+                  subst (λ (p : List Entry). Told loads_now.gave (commit_it ∷ so.newer) (plan_for n streams next against so.plans ∷ so.plans) (after_segment (after_loads shelf (all_kept ids p) manifests) next chunks against end n.room)) (sym so.past_is)
+                  (subst (λ (e : ContainerEnd). Told loads_now.gave (commit_it ∷ so.newer) (plan_for n streams next against so.plans ∷ so.plans) (after_segment (after_loads shelf (all_kept ids before) manifests) next chunks against e n.room)) so.end_is told);
+              stores = λ tail all more. subst (λ (ls : List (List Located)). StoresLoaded n streams (loads_of ls) (λ b. In b all) (commit_it ∷ so.newer) older) (sym (one_list tail)) (stores_now tail all more);
+            }
