@@ -5,3 +5,4 @@ pub mod ContentLaws
 pub mod BackupLaws
 pub mod KeptLaws
 pub mod LoadLaws
+pub mod GaveLaws

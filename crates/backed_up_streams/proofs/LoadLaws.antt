@@ -34,11 +34,13 @@ use Rattle.store_core.specs.View.{StateView, KeptView, past_of, kept, all_kept, 
 use Rattle.depot.specs.Loading.{IsLoaded}
 use Rattle.segment_store.specs.Loads.{after_load, after_loads, AreLoaded}
 use Rattle.segment_store.specs.Stored.{after_segment, IsStoredOf}
+use Rattle.session.specs.Stores.{no_end}
 use Rattle.stored_streams.specs.Streams.{Streams, manifest_chunks, manifest_pieces}
 use Rattle.stored_streams.specs.Plans.{Planned, planned_places, end_of, plan_for, plans_of}
 use Rattle.stored_streams.specs.OfStreams.{next_of, StoresSegment}
-use Rattle.stored_streams.specs.Loads.{Loads, loaded_text, loaded_after, loaded_plans, IsLoadOf, AreLoadsOf, LoadedOf, StoresLoaded}
+use Rattle.stored_streams.specs.Loads.{Loads, loaded_text, loaded_after, loaded_plans, IsLoadOf, AreLoadsOf, AbortsLoaded, LoadedOf, StoresLoaded}
 use Rattle.backed_up_streams.proofs.ContentLaws.{self}
+use Rattle.backed_up_streams.proofs.GaveLaws.{GaveMore}
 use Rattle.backed_up_streams.proofs.SegmentLaws.{item_behind, next_chunks}
 use Rattle.backed_up_streams.proofs.KeptLaws.{IsKept, kept_there, all_kept-first, count_behind, end_newest, end_at_first}
 
@@ -162,6 +164,63 @@ module _ (n : Numbers) (streams : Streams) (older : List Entry) (author session 
           stores = λ tail all more. (so.stores tail all more, tt);
         }
 
+    -- ---- how a session ends
+
+    pub record HasEnded (past : List Entry) (after : ShelfView) : Type 0 where
+      pub newer : List Entry
+      pub past_is : past ≡ newer ++ older
+      pub loads : Loads
+      pub texts : List (List ℕ)
+      pub then_newer : List Entry
+      pub then_plans : List Planned
+      pub then_shelf : ShelfView
+      pub told : Told texts then_newer then_plans then_shelf
+      pub gave_more : GaveMore then_shelf after
+      pub stores : (all : List (List ℕ)) → ((b : List ℕ) → In b texts → In b all) → StoresLoaded n streams loads (λ b. In b all) newer older
+
+    module _ (count : ℕ) (past : List Entry) (shelf : ShelfView) (end : ContainerEnd) (so : IsSoFar count past shelf end) (after : ShelfView) (gave : GaveMore shelf after) where
+      -- with an end that has as many containers as are laid out
+      ended : (point : Point) → ((all : List (List ℕ)) (plans : List Planned) → end_of session plans ≡ end → LoadedOf n streams (loads_of (so.lists ++ [])) (λ b. In b all) (so.newer ++ older) plans point) → HasEnded (made author point ∷ past) after
+      ended point says = record {
+        newer = made author point ∷ so.newer;
+        past_is = ap (λ (p : List Entry). made author point ∷ p) so.past_is;
+        loads = loads_of (so.lists ++ []);
+        texts = so.texts;
+        then_newer = so.newer;
+        then_plans = so.plans;
+        then_shelf = shelf;
+        told = so.told;
+        gave_more = gave;
+        stores = λ all more.
+            let plans = loaded_plans n streams (loads_of (so.lists ++ [])) so.newer older in
+            (so.stores [] all more, says all plans (ap (end_of session) (so.plans_are []) ∙ so.end_is));
+      }
+
+      pub finished_so : HasEnded (made author (Finish session end.containers) ∷ past) after
+      finished_so = ended (Finish session end.containers) (λ all plans is. sym (ap (λ (e : ContainerEnd). e.containers) is))
+
+      pub given_up_so : (written : ℕ) → HasEnded (made author (Abort session end.containers written) ∷ past) after
+      given_up_so written = ended (Abort session end.containers written) (λ all plans is. inl (sym (ap (λ (e : ContainerEnd). e.containers) is)))
+
+    -- ---- its start
+
+    pub start_so_far : (name : List ℕ) (shelf : ShelfView) → commits_of session (made author (Begin name (Some session)) ∷ older) ≡ 0 → Told [] (made author (Begin name (Some session)) ∷ []) (plans_of n streams older) shelf
+        → IsSoFar 0 (made author (Begin name (Some session)) ∷ older) shelf (no_end session)
+    unfolding loaded_plans loaded_after commits_of commits
+    start_so_far name shelf none told = record {
+      newer = made author (Begin name (Some session)) ∷ [];
+      past_is = refl;
+      counted = none;
+      lists = [];
+      lists_count = refl;
+      plans = plans_of n streams older;
+      plans_are = λ tail. refl;
+      end_is = end_at_first n streams session older none;
+      texts = [];
+      told = told;
+      stores = λ tail all more. (tt, tt);
+    }
+
     -- ---- the segment behind a choice
 
     module _ (front rest : List (List (List ℕ))) (chunks : List (List ℕ)) (are : segments_of n (streams session) ≡ front ++ chunks ∷ rest) (rules : Rules) (past : List Entry) (legal : is_legal rules past ≡ true) (shelf : ShelfView) (end : ContainerEnd) (so : IsSoFar (length front) past shelf end) (ids : List ManifestId) (pending_are : pending_champions session past ≡ ids) (manifests : List Manifest) (loaded : AreLoaded shelf (all_kept ids past) manifests) where
@@ -211,6 +270,43 @@ module _ (n : Numbers) (streams : Streams) (older : List Entry) (author session 
       next_session : (ls : List Located) → ((plan_for n streams next ls so.plans).id.session == session) ≡ true
       unfolding plan_for
       next_session ls = self session
+
+      -- the session is given up with the segment laid out
+      abbrev give_up : ℕ → Entry
+      give_up written = made author (Abort session (end_against chunks against end n.room).containers written)
+
+      is_next : next_of session before ≡ next
+      is_next = λ i. record { session = session; seq = so.counted i }
+
+      laid_said : (tail : List (List Located)) → (plans : List Planned) → plans ≡ so.plans
+          → (end_against chunks against end n.room).containers ≡ (plan_for n streams next (loads_of (so.lists ++ against ∷ tail) next) plans).end.containers
+      laid_said tail plans same = sym ((λ i. (plan_for n streams next (list_now tail i) (same i)).end.containers) ∙ ap (λ (e : ContainerEnd). e.containers) end_laid)
+
+      aborts_said : (tail : List (List Located)) (all : List (List ℕ)) → ((b : List ℕ) → In b loads_now.gave → In b all) → is_pending session past ≡ true → (plans : List Planned) → plans ≡ so.plans
+          → AbortsLoaded n streams (loads_of (so.lists ++ against ∷ tail)) (λ b. In b all) before plans session (end_against chunks against end n.room).containers
+      aborts_said tail all more waits plans same =
+          let loads = loads_of (so.lists ++ against ∷ tail) in
+          inr (
+            subst (λ (p : List Entry). is_pending session p ≡ true) so.past_is waits,
+            subst (λ (id : ManifestId). AreLoadsOf n streams (λ b. In b all) before plans (pending_champions session before) (loads id)) (sym is_next) (loads_said all more tail plans same),
+            subst (λ (id : ManifestId). (end_against chunks against end n.room).containers ≡ (plan_for n streams id (loads id) plans).end.containers) (sym is_next) (laid_said tail plans same),
+          )
+
+      pub given_up_pending : (after : ShelfView) (written : ℕ) → is_pending session past ≡ true → GaveMore (after_loads shelf (all_kept ids past) manifests) after → HasEnded (give_up written ∷ past) after
+      given_up_pending after written waits gave = record {
+        newer = give_up written ∷ so.newer;
+        past_is = ap (λ (p : List Entry). give_up written ∷ p) so.past_is;
+        loads = loads_of (so.lists ++ against ∷ []);
+        texts = loads_now.gave;
+        then_newer = so.newer;
+        then_plans = so.plans;
+        then_shelf = after_loads shelf (all_kept ids before) manifests;
+        told = loads_now.told;
+        gave_more = subst (λ (p : List Entry). GaveMore (after_loads shelf (all_kept ids p) manifests) after) so.past_is gave;
+        stores = λ all more.
+            let plans = loaded_plans n streams (loads_of (so.lists ++ against ∷ [])) so.newer older in
+            (so.stores (against ∷ []) all (λ b there. more b (loads_now.older_too b there)), aborts_said [] all more waits plans (so.plans_are (against ∷ [])));
+      }
 
       module _ (stored : Stored) (of : IsStoredOf chunks against end n.room stored) where
         of_plans : IsStoredOf chunks against (end_of session so.plans) n.room stored
