@@ -6,3 +6,4 @@ pub mod BackupLaws
 pub mod KeptLaws
 pub mod LoadLaws
 pub mod GaveLaws
+pub mod StreamLaws
