@@ -164,10 +164,10 @@ module _ (n : Numbers) (streams : Streams) (older : List Entry) (author session 
 -- ---- a backup
 
 module _ (standings champions : ℕ) (files : ShelfView) (input name : List ℕ) (before : IdleView) (streams : Streams) (objects : Objects) (told : files.held ≡ Some objects) where
-  abbrev n : Numbers
+  abbrev pub n : Numbers
   n = numbers_of before.seen.profile
 
-  abbrev older : List Entry
+  abbrev pub older : List Entry
   older = past_of before.seen
 
   abbrev Has : StateView → Type 0
@@ -191,34 +191,34 @@ module _ (standings champions : ℕ) (files : ShelfView) (input name : List ℕ)
   not_started-has after fault (unbegun cause is there has) = unbegun-has cause after has
 
   module _ (started : HasStarted alone standings champions files input name before) where
-    abbrev author : ℕ
+    abbrev pub author : ℕ
     author = before.author
 
-    abbrev session : ℕ
+    abbrev pub session : ℕ
     session = started.caller.session
 
-    abbrev seen : StateView
+    abbrev pub seen : StateView
     seen = started.caller.seen
 
-    caller_is : started.caller ≡ open_at author session seen
+    pub caller_is : started.caller ≡ open_at author session seen
     caller_is = is_open_at author session started.caller started.begun.author refl
 
-    answer : BeginAnswer before.seen seen author name (Ok session)
+    pub answer : BeginAnswer before.seen seen author name (Ok session)
     answer = at_seen standings champions author before.seen (λ turn. BeginAnswer turn seen author name (Ok session)) started.begun.at_turn
 
-    begin_steps : Steps standings champions author before.seen seen (made author (Begin name (Some session)))
+    pub begin_steps : Steps standings champions author before.seen seen (made author (Begin name (Some session)))
     begin_steps = steps standings champions author before.seen seen (made author (Begin name (Some session))) answer.1
 
-    is_n : numbers_of seen.profile ≡ n
+    pub is_n : numbers_of seen.profile ≡ n
     is_n = ap numbers_of begin_steps.profile
 
-    not_begun : has (begins session) older ≡ false
+    pub not_begun : has (begins session) older ≡ false
     not_begun =
         next_unbegun (rules_of standings champions before.seen) session older
         (legal_at standings champions author before.seen (λ turn. BeginAnswer turn seen author name (Ok session)) started.begun.at_turn)
         (next_is name session older answer.0)
 
-    start : (whole : List (List (List ℕ))) → HasCome n streams older author session whole 0 (past_of seen)
+    pub start : (whole : List (List (List ℕ))) → HasCome n streams older author session whole 0 (past_of seen)
     unfolding begins session_begun
     start whole =
         let entry = made author (Begin name (Some session)) in

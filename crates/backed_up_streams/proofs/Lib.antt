@@ -7,3 +7,4 @@ pub mod KeptLaws
 pub mod LoadLaws
 pub mod GaveLaws
 pub mod StreamLaws
+pub mod RunLaws

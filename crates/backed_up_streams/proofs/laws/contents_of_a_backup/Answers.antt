@@ -1,3 +1,4 @@
+use Rattle.backed_up_streams.proofs.RunLaws
 use Rattle.backed_up_streams.proofs.StreamLaws
 use Rattle.backed_up_streams.proofs.GaveLaws
 use Rattle.backed_up_streams.proofs.LoadLaws
