@@ -228,19 +228,33 @@ module _ (standings champions : ℕ) (files : ShelfView) (input name : List ℕ)
           contents = λ is older_has. subst (HasContents n streams) (sym begin_steps.past) (contents_more n streams author (Begin name (Some session)) older older_has tt tt);
         }
 
+    -- the session's stream is the input's bytes, whose segments are those of the end
+    ends-stream : (after : IdleView) → IsOfInput streams older (past_of after.seen) (bytes_of objects input) → Ends n streams older author session standings champions files input objects told seen is_n start after → streams session ≡ bytes_of objects input
+    ends-stream after of_input ends = of_input session not_begun ends.ends.begun
+
     ends-has : (after : IdleView) → IsOfInput streams older (past_of after.seen) (bytes_of objects input) → Ends n streams older author session standings champions files input objects told seen is_n start after → Has after.seen
-    ends-has after of_input ends = ends.ends.contents (ap (segments_of n) (of_input session not_begun ends.ends.begun) ∙ ends.whole_is)
+    ends-has after of_input ends = ends.ends.contents (ap (segments_of n) (ends-stream after of_input ends) ∙ ends.whole_is)
+
+    module _ (last : SourceView) (depot : ShelfView) (after : IdleView) (depot' : ShelfView) where
+      finished-ends : HasFinishedStream alone standings champions started.caller (input_view files input) last depot after depot' → Ends n streams older author session standings champions files input objects told seen is_n start after
+      finished-ends run =
+          finished-session n streams older author session standings champions files input objects told seen is_n start last depot after depot'
+          (subst (λ (t : OpenView). HasFinishedStream alone standings champions t (input_view files input) last depot after depot') caller_is run)
+
+      failed-ends : (fault : BackupFault) → HasFailedStream alone standings champions started.caller (input_view files input) last depot after depot' fault → Ends n streams older author session standings champions files input objects told seen is_n start after
+      failed-ends fault run =
+          failed-session n streams older author session standings champions files input objects told seen is_n start last depot after depot' fault
+          (subst (λ (t : OpenView). HasFailedStream alone standings champions t (input_view files input) last depot after depot' fault) caller_is run)
+
+      pub finished-of_input : HasFinishedStream alone standings champions started.caller (input_view files input) last depot after depot' → IsOfInput streams older (past_of after.seen) (bytes_of objects input) → streams session ≡ bytes_of objects input
+      finished-of_input run of_input = ends-stream after of_input (finished-ends run)
+
+      pub failed-of_input : (fault : BackupFault) → HasFailedStream alone standings champions started.caller (input_view files input) last depot after depot' fault → IsOfInput streams older (past_of after.seen) (bytes_of objects input) → streams session ≡ bytes_of objects input
+      failed-of_input fault run of_input = ends-stream after of_input (failed-ends fault run)
 
   pub backup-has : (depot : ShelfView) (after : IdleView) (depot' : ShelfView) (result : Result ℕ BackupFault) → BackupAnswer alone standings champions files input name before depot after depot' result
       → IsOfInput streams older (past_of after.seen) (bytes_of objects input) → Has after.seen
   backup-has depot after depot' (Ok number) has of_input =
-      let started = has.started in
-      let streamed = has.streamed in
-      let run = subst (λ (t : OpenView). HasFinishedStream alone standings champions t (input_view files input) streamed.last depot after depot') (caller_is started) streamed.finished in
-      ends-has started after of_input
-      (finished-session n streams older before.author started.caller.session standings champions files input objects told started.caller.seen (is_n started) (start started) streamed.last depot after depot' run)
+      ends-has has.started after of_input (finished-ends has.started has.streamed.last depot after depot' has.streamed.finished)
   backup-has depot after depot' (Err fault) (not_started same has) of_input = not_started-has after fault has
-  backup-has depot after depot' (Err fault) (given_up started streamed) of_input =
-      let run = subst (λ (t : OpenView). HasFailedStream alone standings champions t (input_view files input) streamed.last depot after depot' fault) (caller_is started) streamed.failed in
-      ends-has started after of_input
-      (failed-session n streams older before.author started.caller.session standings champions files input objects told started.caller.seen (is_n started) (start started) streamed.last depot after depot' fault run)
+  backup-has depot after depot' (Err fault) (given_up started streamed) of_input = ends-has started after of_input (failed-ends started streamed.last depot after depot' fault streamed.failed)

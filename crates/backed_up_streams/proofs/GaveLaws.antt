@@ -42,6 +42,9 @@ pub more_then : (told : Option (List Given)) (xs ys : List Given) → with_more 
 more_then None xs ys = refl
 more_then (Some told) xs ys = ap (λ (zs : List Given). Some zs) (append_assoc told xs ys)
 
+pub gave_none : (shelf : ShelfView) → shelf.gave ≡ with_more shelf.gave []
+gave_none shelf = more_none shelf.gave
+
 pub gave_same : (before after : ShelfView) → after.gave ≡ before.gave → GaveMore before after
 gave_same before after same = record { reads = []; gave = same ∙ more_none before.gave }
 
@@ -83,7 +86,7 @@ stopped_loads-gave before after kepts fault is =
 -- ---- puts and creates, which read nothing
 
 put_gave : (shelf : ShelfView) (put : PutBytes) → (after_put shelf put).gave ≡ shelf.gave
-put_gave shelf put = elim (cases_Bool put.starts) [ | inl starts ↦ rw starts refl | inr adds ↦ rw adds refl ]
+put_gave shelf put = elim (cases_Bool put.starts) [ inl starts ↦ rw starts refl | inr adds ↦ rw adds refl ]
 
 pub puts_gave : (shelf : ShelfView) (puts : List PutBytes) → (after_puts shelf puts).gave ≡ shelf.gave
 puts_gave shelf [] = refl

@@ -35,7 +35,7 @@ newest_there does [] h = absurd (false≢true (sym (has_none does) ∙ h))
 newest_there does (entry ∷ past) h = elim (cases_Bool (does entry.point)) [
   | inl here ↦ record { entry = entry; newest_is = rw here refl; does_it = here }
   | inr not ↦
-      let older = newest_there does past (elim (has_cases does entry past h) [ | inl now ↦ absurd (false≢true (sym not ∙ now)) | inr there ↦ there ]) in
+      let older = newest_there does past (elim (has_cases does entry past h) [ inl now ↦ absurd (false≢true (sym not ∙ now)) | inr there ↦ there ]) in
       record { entry = older.entry; newest_is = rw not (older.newest_is); does_it = older.does_it }
 ]
 

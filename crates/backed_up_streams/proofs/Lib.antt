@@ -8,3 +8,5 @@ pub mod LoadLaws
 pub mod GaveLaws
 pub mod StreamLaws
 pub mod RunLaws
+pub mod RecordedLaws
+pub mod OfStreamsLaws

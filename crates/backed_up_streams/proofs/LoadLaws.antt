@@ -125,7 +125,7 @@ module _ (n : Numbers) (streams : Streams) (older : List Entry) (author session 
           told = subst (λ (ks : List KeptView). Told rest.gave newer plans (after_loads shelf ks (manifest ∷ manifests))) (sym kepts) rest.told;
           are = λ all more. (
             one_load all past plans id manifest shelf (after_load shelf is.view manifest) is loaded.0
-            (source_more one.gave all (text_loaded manifest) (text_loaded manifest ≡ manifest_text (manifest_pieces n streams is.view.id) (planned_places is.view.id plans)) (λ b there. more b (rest.older_too b there)) one.source),
+                (source_more one.gave all (text_loaded manifest) (text_loaded manifest ≡ manifest_text (manifest_pieces n streams is.view.id) (planned_places is.view.id plans)) (λ b there. more b (rest.older_too b there)) one.source),
             rest.are all more,
           );
         }

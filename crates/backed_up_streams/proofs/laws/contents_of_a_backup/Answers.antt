@@ -1,8 +1,3 @@
-use Rattle.backed_up_streams.proofs.RunLaws
-use Rattle.backed_up_streams.proofs.StreamLaws
-use Rattle.backed_up_streams.proofs.GaveLaws
-use Rattle.backed_up_streams.proofs.LoadLaws
-use Rattle.backed_up_streams.proofs.KeptLaws
 use Rattle.backed_up_streams.proofs.BackupLaws.{backup-has}
 use Rattle.backed_up_streams.proofs.laws.contents_of_a_backup.Goals as goal
 

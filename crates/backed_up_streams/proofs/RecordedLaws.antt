@@ -1,0 +1,212 @@
+-- A depot that tells its reads.
+use Rattle.std.proofs.Common.{◌≡◌, ◌⊎◌, ℕ, zero, suc, ◌*◌, List, [], ◌∷◌, ◌++◌, length, Option, Some, None, Result, Ok, Err, refl, sym, ap, ◌∙◌, subst, inl, inr, arith}
+use mathlib.Core.List.{map}
+use Rattle.std.specs.List.{Contains}
+use Rattle.std.proofs.lemmas.List.{map-append}
+use Rattle.ss_base.specs.declared.ids.ManifestId.{ManifestId}
+use Rattle.ss_base.specs.declared.object.Object.TheVariants.{Manifest as ManifestObject}
+use Rattle.ss_base.specs.declared.profile.Numbers.{Numbers}
+use Rattle.ss_base.specs.Profile.{numbers_of}
+use Rattle.ss_base.specs.ObjectName.{object_text}
+use Rattle.ss_base.proofs.MemberLaws.{In, in_append_left, in_append_right}
+use Rattle.segment_plan.specs.Plan.{Located}
+use Rattle.segment_reader.specs.SegmentsOf.{segments_of}
+use Rattle.manifest_codec.specs.declared.manifest.Manifest.{Manifest}
+use Rattle.manifest_codec.specs.Text.{manifest_text}
+use Rattle.outside.specs.Shelf.{Objects, Given, bytes_of, read_of}
+use Rattle.outside.specs.Views.{ShelfView}
+use Rattle.journal_entry.specs.declared.entry.Entry.{Entry}
+use Rattle.journal_entry.specs.declared.entry.Point.{Point}
+use Rattle.journal_entry.specs.declared.entry.Point.TheVariants.{Begin, Commit, Abort}
+use Rattle.store_core.specs.declared.fault.BeginFault.{BeginFault}
+use Rattle.store_core.specs.declared.fault.BeginFault.TheVariants as begin
+use Rattle.store_core.specs.View.{StateView, KeptView, past_of, made}
+use Rattle.store_core.specs.Answers.{BeginAnswer}
+use Rattle.depot.specs.declared.fault.BackupFault.{BackupFault}
+use Rattle.history_calls.specs.Tokens.{IdleView}
+use Rattle.history_calls.specs.SessionSteps.{HasNotBegun}
+use Rattle.session.specs.Backup.{HasNotStarted, HasStarted, BackupAnswer, input_view}
+use Rattle.session.specs.Backup.HasNotStarted.{unasked, absent, unbegun}
+use Rattle.session.specs.Backup.HasNotBackedUp.{not_started, given_up}
+use Rattle.stored_streams.specs.Streams.{Streams}
+use Rattle.history.specs.Sessions.{pending_champions}
+use Rattle.stored_streams.specs.Plans.{Planned, plans_of, end_of}
+use Rattle.stored_streams.specs.OfStreams.{next_of}
+use Rattle.stored_streams.specs.Loads.{Loads, IsLoadOf, AreLoadsOf, LoadedOf, loaded_plans, StoresLoaded}
+use Rattle.stored_streams.specs.Reads.{IsGiven}
+use Rattle.stored_streams.specs.Reads.Reads.{recorded}
+use Rattle.backed_up_streams.specs.OfInput.{IsOfInput}
+use Rattle.backed_up_streams.specs.Loaded.{HasLoaded, ReadsMore}
+use Rattle.backed_up_streams.proofs.AloneLaws.{alone, at_seen, steps}
+use Rattle.backed_up_streams.proofs.GaveLaws.{with_more, more_then, GaveMore, gave_none, segment_gave}
+use Rattle.backed_up_streams.proofs.LoadLaws.{text_loaded, IsTelling, LoadTold, HasEnded}
+use Rattle.backed_up_streams.proofs.BackupLaws.{finished-of_input, failed-of_input}
+use Rattle.backed_up_streams.proofs.RunLaws.{finished-run, failed-run}
+
+-- ---- what other bytes could be given
+
+module _ (given other : List ℕ → Type 0) (weaker : (b : List ℕ) → given b → other b) (n : Numbers) (streams : Streams) where
+  load_weaker : (past : List Entry) (plans : List Planned) (id : ManifestId) (l : Located) → IsLoadOf n streams given past plans id l → IsLoadOf n streams other past plans id l
+  load_weaker past plans id l is = record { manifest = is.manifest; digest = is.digest; source = elim is.source [ inl read ↦ inl (weaker (manifest_text l.pieces l.places) read) | inr planned ↦ inr planned ] }
+
+  loads_weaker : (past : List Entry) (plans : List Planned) (ids : List ManifestId) (ls : List Located) → AreLoadsOf n streams given past plans ids ls → AreLoadsOf n streams other past plans ids ls
+  loads_weaker past plans [] [] are = are
+  loads_weaker past plans [] (l ∷ ls) are = absurd are
+  loads_weaker past plans (id ∷ ids) [] are = absurd are
+  loads_weaker past plans (id ∷ ids) (l ∷ ls) are = (load_weaker past plans id l are.0, loads_weaker past plans ids ls are.1)
+
+  entry_weaker : (loads : Loads) (past : List Entry) (plans : List Planned) (point : Point) → LoadedOf n streams loads given past plans point → LoadedOf n streams loads other past plans point
+  entry_weaker loads past plans (Commit id content text chunks bytes fresh fresh_bytes uses) (are, stores) = (loads_weaker past plans (pending_champions id.session past) (loads id) are, stores)
+  entry_weaker loads past plans (Abort session containers texts) (inl laid) = inl laid
+  entry_weaker loads past plans (Abort session containers texts) (inr (waits, are, laid)) =
+      inr (waits, loads_weaker past plans (pending_champions session past) (loads (next_of session past)) are, laid)
+  entry_weaker loads past plans _ says = says
+
+  pub stores_weaker : (loads : Loads) (newer older : List Entry) → StoresLoaded n streams loads given newer older → StoresLoaded n streams loads other newer older
+  stores_weaker loads [] older stores = stores
+  stores_weaker loads (entry ∷ newer) older stores =
+      (stores_weaker loads newer older stores.0, entry_weaker loads (newer ++ older) (loaded_plans n streams loads newer older) entry.point stores.1)
+
+contains_from_in : {X : Type 0} (x : X) (xs : List X) → In x xs → Contains xs x
+contains_from_in x [] h = absurd h
+contains_from_in x (y ∷ ys) (inl is) = (zero, omega arith, is)
+contains_from_in x (y ∷ ys) (inr later) = let (k, below, is) = contains_from_in x ys later in (suc k, omega (arith, below), is)
+
+-- ---- the reads of a depot
+
+abbrev bytes_given : List Given → List (List ℕ)
+bytes_given reads = map (λ (g : Given). g.bytes) reads
+
+-- these texts are those that it gave since
+record GaveSo (depot : ShelfView) (texts : List (List ℕ)) (newer : List Entry) (plans : List Planned) (shelf : ShelfView) : Type 0 where
+  reads : List Given
+  texts_are : bytes_given reads ≡ texts
+  gave : shelf.gave ≡ with_more depot.gave reads
+
+module _ (n : Numbers) (streams : Streams) (older : List Entry) (author session : ℕ) (depot : ShelfView) where
+  abbrev Gave : List (List ℕ) → List Entry → List Planned → ShelfView → Type 0
+  Gave = GaveSo depot
+
+  load_gave : (texts : List (List ℕ)) (newer : List Entry) (plans : List Planned) (shelf : ShelfView) (view : KeptView) (manifest : Manifest) → Gave texts newer plans shelf
+      → LoadTold n streams older author session Gave texts newer plans shelf view manifest
+  load_gave texts newer plans shelf view manifest so =
+      let text = text_loaded manifest in
+      let read = read_of (object_text (ManifestObject view.id)) 0 (48 * view.chunks) text in
+      record {
+        gave = texts ++ text ∷ [];
+        older_too = λ b there. in_append_left b texts (text ∷ []) there;
+        told = record {
+          reads = so.reads ++ read ∷ [];
+          texts_are = map-append (λ (g : Given). g.bytes) so.reads (read ∷ []) ∙ ap (λ (ts : List (List ℕ)). ts ++ text ∷ []) so.texts_are;
+          gave = ap (λ (told : Option (List Given)). with_more told (read ∷ [])) so.gave ∙ more_then depot.gave so.reads (read ∷ []);
+        };
+        source = inl (in_append_right text texts (text ∷ []) (inl refl));
+      }
+
+  is_telling : IsTelling n streams older author session Gave
+  is_telling = record {
+    load = λ texts newer plans shelf view manifest kept_is loaded so. load_gave texts newer plans shelf view manifest so;
+    choose = λ texts newer plans shelf chosen ids so. record { reads = so.reads; texts_are = so.texts_are; gave = so.gave };
+    commit = λ rules texts newer plans shelf seq chunks against stored legal counted chunks_are of so. record {
+      reads = so.reads;
+      texts_are = so.texts_are;
+      gave = segment_gave shelf (record { session = session; seq = seq }) chunks against (end_of session plans) n.room ∙ so.gave;
+    };
+  }
+
+  at_first : (newer : List Entry) (plans : List Planned) → Gave [] newer plans depot
+  at_first newer plans = let none = gave_none depot in record { reads = []; texts_are = refl; gave = none }
+
+  -- what its reads gave, at the end of a session
+  pub record Recorded (past : List Entry) (depot' : ShelfView) : Type 0 where
+    pub reads : List Given
+    pub more : ReadsMore depot depot' reads
+    pub loaded : HasLoaded n streams (recorded reads ∷ []) older past
+
+  ended-recorded : (past : List Entry) (depot' : ShelfView) → HasEnded n streams older author session Gave is_telling past depot' → Recorded past depot'
+  ended-recorded past depot' is =
+      let first = is.told.reads in
+      let last = is.gave_more.reads in
+      let reads = first ++ last in
+      let there : (b : List ℕ) → In b is.texts → In b (bytes_given reads) =
+      λ b h. subst (λ (ts : List (List ℕ)). In b ts) (sym (map-append (λ (g : Given). g.bytes) first last))
+      (in_append_left b (bytes_given first) (bytes_given last) (subst (λ (ts : List (List ℕ)). In b ts) (sym is.told.texts_are) h)) in
+      record {
+        reads = reads;
+        more = is.gave_more.gave ∙ ap (λ (told : Option (List Given)). with_more told last) is.told.gave ∙ more_then depot.gave first last;
+        loaded = record {
+          newer = is.newer;
+          past_is = is.past_is;
+          loads = is.loads;
+          stores =
+              stores_weaker (λ b. In b (bytes_given reads)) (IsGiven (recorded reads ∷ []) past) (λ b h. inl (contains_from_in b (bytes_given reads) h)) n streams is.loads is.newer older
+              (is.stores (bytes_given reads) there);
+        };
+      }
+
+  -- where nothing was stored
+  pub nothing-recorded : (newer past : List Entry) (depot' : ShelfView) → depot' ≡ depot → past ≡ newer ++ older
+      → StoresLoaded n streams (λ id. []) (IsGiven (recorded [] ∷ []) past) newer older → Recorded past depot'
+  nothing-recorded newer past depot' same past_is stores = record {
+    reads = [];
+    more = let none = gave_none depot in ap (λ (s : ShelfView). s.gave) same ∙ none;
+    loaded = record { newer = newer; past_is = past_is; loads = λ id. []; stores = stores };
+  }
+
+-- ---- a backup
+
+module _ (standings champions : ℕ) (files : ShelfView) (input name : List ℕ) (before : IdleView) (streams : Streams) (objects : Objects) (told : files.held ≡ Some objects) (depot : ShelfView) where
+  abbrev Is : IdleView → ShelfView → Type 0
+  Is after depot' = Recorded (numbers_of before.seen.profile) streams (past_of before.seen) before.author 0 depot (past_of after.seen) depot'
+
+  unchanged-recorded : (after : IdleView) (depot' : ShelfView) → depot' ≡ depot → past_of after.seen ≡ past_of before.seen → Is after depot'
+  unchanged-recorded after depot' same past_is =
+      nothing-recorded (numbers_of before.seen.profile) streams (past_of before.seen) before.author 0 depot [] (past_of after.seen) depot' same past_is tt
+
+  unbegun-recorded : (cause : BeginFault) (after : IdleView) (depot' : ShelfView) → depot' ≡ depot → HasNotBegun alone standings champions before name after cause → Is after depot'
+  unbegun-recorded begin.Taken after depot' same has =
+      let done = at_seen standings champions before.author before.seen (λ turn. BeginAnswer turn after.seen before.author name (Err begin.Taken)) has.at_turn in
+      let entry = made before.author (Begin name None) in
+      nothing-recorded (numbers_of before.seen.profile) streams (past_of before.seen) before.author 0 depot (entry ∷ []) (past_of after.seen) depot' same
+      (steps standings champions before.author before.seen after.seen entry done.1).past (tt, tt)
+  unbegun-recorded begin.Full after depot' same has =
+      let done = at_seen standings champions before.author before.seen (λ turn. BeginAnswer turn after.seen before.author name (Err begin.Full)) has.at_turn in
+      unchanged-recorded after depot' same (ap past_of done.same)
+  unbegun-recorded begin.Memory after depot' same has =
+      let done = at_seen standings champions before.author before.seen (λ turn. BeginAnswer turn after.seen before.author name (Err begin.Memory)) has.at_turn in
+      unchanged-recorded after depot' same (ap past_of done)
+
+  not_started-recorded : (after : IdleView) (depot' : ShelfView) (fault : BackupFault) → depot' ≡ depot → HasNotStarted alone standings champions files input name before after fault → Is after depot'
+  not_started-recorded after depot' fault same (unasked cause is same_caller) = unchanged-recorded after depot' same (ap (λ (i : IdleView). past_of i.seen) same_caller)
+  not_started-recorded after depot' fault same (absent is not_there same_caller) = unchanged-recorded after depot' same (ap (λ (i : IdleView). past_of i.seen) same_caller)
+  not_started-recorded after depot' fault same (unbegun cause is there has) = unbegun-recorded cause after depot' same has
+
+  session-recorded : (started : HasStarted alone standings champions files input name before) (after : IdleView) (depot' : ShelfView)
+      → Recorded (numbers_of before.seen.profile) streams (past_of before.seen) before.author started.caller.session depot (past_of after.seen) depot' → Is after depot'
+  session-recorded started after depot' is = record { reads = is.reads; more = is.more; loaded = is.loaded }
+
+  pub backup-recorded : (after : IdleView) (depot' : ShelfView) (result : Result ℕ BackupFault) → BackupAnswer alone standings champions files input name before depot after depot' result
+      → IsOfInput streams (past_of before.seen) (past_of after.seen) (bytes_of objects input) → Is after depot'
+  backup-recorded after depot' (Ok number) has of_input =
+      let started = has.started in
+      let streamed = has.streamed in
+      let n = numbers_of before.seen.profile in
+      let older = past_of before.seen in
+      let session = started.caller.session in
+      let newer : List Entry = made before.author (Begin name (Some session)) ∷ [] in
+      let stream_is = finished-of_input standings champions files input name before streams objects told started streamed.last depot after depot' streamed.finished of_input in
+      session-recorded started after depot'
+      (ended-recorded n streams older before.author session depot (past_of after.seen) depot'
+      (finished-run standings champions files input name before streams objects told started (Gave n streams older before.author session depot) (is_telling n streams older before.author session depot) depot
+      (at_first n streams older before.author session depot newer (plans_of n streams older)) stream_is streamed.last after depot' streamed.finished))
+  backup-recorded after depot' (Err fault) (not_started same has) of_input = not_started-recorded after depot' fault same has
+  backup-recorded after depot' (Err fault) (given_up started streamed) of_input =
+      let n = numbers_of before.seen.profile in
+      let older = past_of before.seen in
+      let session = started.caller.session in
+      let newer : List Entry = made before.author (Begin name (Some session)) ∷ [] in
+      let stream_is = failed-of_input standings champions files input name before streams objects told started streamed.last depot after depot' fault streamed.failed of_input in
+      session-recorded started after depot'
+      (ended-recorded n streams older before.author session depot (past_of after.seen) depot'
+      (failed-run standings champions files input name before streams objects told started (Gave n streams older before.author session depot) (is_telling n streams older before.author session depot) depot
+      (at_first n streams older before.author session depot newer (plans_of n streams older)) stream_is streamed.last after depot' fault streamed.failed))
