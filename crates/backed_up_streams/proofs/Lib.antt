@@ -10,3 +10,4 @@ pub mod StreamLaws
 pub mod RunLaws
 pub mod RecordedLaws
 pub mod OfStreamsLaws
+pub mod HeldLaws

@@ -1,5 +1,5 @@
 -- What a session's loads gave, and what it stores against them.
-use Rattle.std.proofs.Common.{◌≡◌, ℕ, ◌==◌, ◌+◌, ◌*◌, ◌⊎◌, true, List, [], ◌∷◌, ◌++◌, length, Option, Some, None, refl, sym, ap, ◌∙◌, subst, inl, inr, arith, append_assoc, length-append}
+use Rattle.std.proofs.Common.{◌≡◌, ℕ, ◌==◌, ◌+◌, ◌*◌, ◌⊎◌, true, false, List, [], ◌∷◌, ◌++◌, length, Option, Some, None, refl, sym, ap, ◌∙◌, subst, inl, inr, arith, append_assoc, length-append}
 use mathlib.Core.List.{map}
 use Rattle.std.specs.List.{slice_index_or}
 use Rattle.std.specs.Option.{unwrap_or, option_map}
@@ -39,6 +39,7 @@ use Rattle.stored_streams.specs.Streams.{Streams, manifest_chunks, manifest_piec
 use Rattle.stored_streams.specs.Plans.{Planned, planned_places, end_of, plan_for, plans_of}
 use Rattle.stored_streams.specs.OfStreams.{next_of, StoresSegment}
 use Rattle.stored_streams.specs.Loads.{Loads, loaded_text, loaded_after, loaded_plans, IsLoadOf, AreLoadsOf, AbortsLoaded, LoadedOf, StoresLoaded}
+use Rattle.stored_streams.proofs.CommittedLaws.{kept_older}
 use Rattle.backed_up_streams.proofs.ContentLaws.{self}
 use Rattle.backed_up_streams.proofs.GaveLaws.{GaveMore}
 use Rattle.backed_up_streams.proofs.SegmentLaws.{item_behind, next_chunks}
@@ -55,18 +56,19 @@ abbrev pub commit_point : ℕ → ℕ → Stored → Point
 commit_point session seq stored =
     Commit (record { session = session; seq = seq }) stored.content stored.text stored.chunks stored.bytes stored.fresh stored.fresh_bytes stored.uses.items
 
-module _ (n : Numbers) (streams : Streams) (older : List Entry) (author session : ℕ) (Told : List (List ℕ) → List Entry → List Planned → ShelfView → Type 0) where
+module _ (n : Numbers) (streams : Streams) (older : List Entry) (author session : ℕ) (Told : List (List ℕ) → List Entry → List Planned → ShelfView → Type 0) (Allowed : List Entry → Type 0) where
   -- behind one load: the texts that reads gave are these or more, and the loaded one is among them or was planned
   pub record LoadTold (texts : List (List ℕ)) (newer : List Entry) (plans : List Planned) (shelf : ShelfView) (view : KeptView) (manifest : Manifest) : Type 0 where
     pub gave : List (List ℕ)
     pub older_too : (b : List ℕ) → In b texts → In b gave
     pub told : Told gave newer plans (after_load shelf view manifest)
-    pub source : In (text_loaded manifest) gave ⊎ (text_loaded manifest ≡ manifest_text (manifest_pieces n streams view.id) (planned_places view.id plans))
+    pub source : Allowed (newer ++ older) → In (text_loaded manifest) gave ⊎ (text_loaded manifest ≡ manifest_text (manifest_pieces n streams view.id) (planned_places view.id plans))
 
   -- what is known of the depot's shelf while the session goes on: it stays so behind a load, a choice and a commit
   pub record IsTelling : Type 0 where
+    pub before : (entry : Entry) (past : List Entry) → Allowed (entry ∷ past) → Allowed past
     pub load : (texts : List (List ℕ)) (newer : List Entry) (plans : List Planned) (shelf : ShelfView) (view : KeptView) (manifest : Manifest)
-        → kept view.id (newer ++ older) ≡ Some view → IsLoaded shelf (after_load shelf view manifest) view manifest
+        → has (commits_manifest view.id) (newer ++ older) ≡ true → kept view.id (newer ++ older) ≡ Some view → IsLoaded shelf (after_load shelf view manifest) view manifest
         → Told texts newer plans shelf → LoadTold texts newer plans shelf view manifest
     pub choose : (texts : List (List ℕ)) (newer : List Entry) (plans : List Planned) (shelf : ShelfView) (chosen : List Name) (ids : List ManifestId)
         → Told texts newer plans shelf → Told texts (made author (Choose session chosen ids) ∷ newer) plans shelf
@@ -85,7 +87,7 @@ module _ (n : Numbers) (streams : Streams) (older : List Entry) (author session 
       pub gave : List (List ℕ)
       pub older_too : (b : List ℕ) → In b texts → In b gave
       pub told : Told gave newer plans shelf
-      pub are : (all : List (List ℕ)) → ((b : List ℕ) → In b gave → In b all) → AreLoadsOf n streams (λ b. In b all) (newer ++ older) plans ids (located manifests)
+      pub are : Allowed (newer ++ older) → (all : List (List ℕ)) → ((b : List ℕ) → In b gave → In b all) → AreLoadsOf n streams (λ b. In b all) (newer ++ older) plans ids (located manifests)
 
     one_load : (all : List (List ℕ)) (past : List Entry) (plans : List Planned) (id : ManifestId) (manifest : Manifest) (shelf after : ShelfView) (is : IsKept id past) → IsLoaded shelf after is.view manifest
         → In (text_loaded manifest) all ⊎ (text_loaded manifest ≡ manifest_text (manifest_pieces n streams is.view.id) (planned_places is.view.id plans))
@@ -104,7 +106,7 @@ module _ (n : Numbers) (streams : Streams) (older : List Entry) (author session 
         → ((id : ManifestId) → In id ids → has (commits_manifest id) (newer ++ older) ≡ true)
         → AreLoaded shelf (all_kept ids (newer ++ older)) manifests
         → Told texts newer plans shelf → LoadsTold texts newer plans (after_loads shelf (all_kept ids (newer ++ older)) manifests) ids manifests
-    all_loads texts newer plans shelf [] [] committed are told = record { gave = texts; older_too = λ b there. there; told = told; are = λ all more. tt }
+    all_loads texts newer plans shelf [] [] committed are told = record { gave = texts; older_too = λ b there. there; told = told; are = λ allowed all more. tt }
     all_loads texts newer plans shelf [] (manifest ∷ manifests) committed are told = absurd are
     all_loads texts newer plans shelf (id ∷ ids) [] committed are told =
         let past = newer ++ older in
@@ -116,17 +118,18 @@ module _ (n : Numbers) (streams : Streams) (older : List Entry) (author session 
         let is = kept_there id past (committed id (inl refl)) in
         let kepts = all_kept-first id ids past is.view is.kept_is in
         let loaded = subst (λ (ks : List KeptView). AreLoaded shelf ks (manifest ∷ manifests)) kepts are in
+        let own_committed : has (commits_manifest is.view.id) past ≡ true = subst (λ (i : ManifestId). has (commits_manifest i) past ≡ true) (sym is.same) (committed id (inl refl)) in
         let own_kept : kept is.view.id past ≡ Some is.view = ap (λ (i : ManifestId). kept i past) is.same ∙ is.kept_is in
-        let one = telling.load texts newer plans shelf is.view manifest own_kept loaded.0 told in
+        let one = telling.load texts newer plans shelf is.view manifest own_committed own_kept loaded.0 told in
         let rest = all_loads one.gave newer plans (after_load shelf is.view manifest) ids manifests (λ i there. committed i (inr there)) loaded.1 one.told in
         record {
           gave = rest.gave;
           older_too = λ b there. rest.older_too b (one.older_too b there);
           told = subst (λ (ks : List KeptView). Told rest.gave newer plans (after_loads shelf ks (manifest ∷ manifests))) (sym kepts) rest.told;
-          are = λ all more. (
+          are = λ allowed all more. (
             one_load all past plans id manifest shelf (after_load shelf is.view manifest) is loaded.0
-                (source_more one.gave all (text_loaded manifest) (text_loaded manifest ≡ manifest_text (manifest_pieces n streams is.view.id) (planned_places is.view.id plans)) (λ b there. more b (rest.older_too b there)) one.source),
-            rest.are all more,
+                (source_more one.gave all (text_loaded manifest) (text_loaded manifest ≡ manifest_text (manifest_pieces n streams is.view.id) (planned_places is.view.id plans)) (λ b there. more b (rest.older_too b there)) (one.source allowed)),
+            rest.are allowed all more,
           );
         }
 
@@ -143,7 +146,7 @@ module _ (n : Numbers) (streams : Streams) (older : List Entry) (author session 
       pub end_is : end_of session plans ≡ end
       pub texts : List (List ℕ)
       pub told : Told texts newer plans shelf
-      pub stores : (tail : List (List Located)) (all : List (List ℕ)) → ((b : List ℕ) → In b texts → In b all) → StoresLoaded n streams (loads_of (lists ++ tail)) (λ b. In b all) newer older
+      pub stores : Allowed (newer ++ older) → (tail : List (List Located)) (all : List (List ℕ)) → ((b : List ℕ) → In b texts → In b all) → StoresLoaded n streams (loads_of (lists ++ tail)) (λ b. In b all) newer older
 
     -- a choice
     pub chosen_so_far : (count : ℕ) (past : List Entry) (shelf : ShelfView) (end : ContainerEnd) (chosen : List Name) (ids : List ManifestId) → IsSoFar count past shelf end → IsSoFar count (made author (Choose session chosen ids) ∷ past) shelf end
@@ -161,7 +164,7 @@ module _ (n : Numbers) (streams : Streams) (older : List Entry) (author session 
           end_is = so.end_is;
           texts = so.texts;
           told = telling.choose so.texts so.newer so.plans shelf chosen ids so.told;
-          stores = λ tail all more. (so.stores tail all more, tt);
+          stores = λ allowed tail all more. (so.stores (telling.before choice (so.newer ++ older) allowed) tail all more, tt);
         }
 
     -- ---- how a session ends
@@ -176,12 +179,14 @@ module _ (n : Numbers) (streams : Streams) (older : List Entry) (author session 
       pub then_shelf : ShelfView
       pub told : Told texts then_newer then_plans then_shelf
       pub gave_more : GaveMore then_shelf after
-      pub stores : (all : List (List ℕ)) → ((b : List ℕ) → In b texts → In b all) → StoresLoaded n streams loads (λ b. In b all) newer older
+      pub kept_same : (id : ManifestId) → kept id (newer ++ older) ≡ kept id (then_newer ++ older)
+      pub allowed_then : Allowed (newer ++ older) → Allowed (then_newer ++ older)
+      pub stores : Allowed (newer ++ older) → (all : List (List ℕ)) → ((b : List ℕ) → In b texts → In b all) → StoresLoaded n streams loads (λ b. In b all) newer older
 
     module _ (count : ℕ) (past : List Entry) (shelf : ShelfView) (end : ContainerEnd) (so : IsSoFar count past shelf end) (after : ShelfView) (gave : GaveMore shelf after) where
       -- with an end that has as many containers as are laid out
-      ended : (point : Point) → ((all : List (List ℕ)) (plans : List Planned) → end_of session plans ≡ end → LoadedOf n streams (loads_of (so.lists ++ [])) (λ b. In b all) (so.newer ++ older) plans point) → HasEnded (made author point ∷ past) after
-      ended point says = record {
+      ended : (point : Point) → ((id : ManifestId) → commits_manifest id point ≡ false) → ((all : List (List ℕ)) (plans : List Planned) → end_of session plans ≡ end → LoadedOf n streams (loads_of (so.lists ++ [])) (λ b. In b all) (so.newer ++ older) plans point) → HasEnded (made author point ∷ past) after
+      ended point keeps says = record {
         newer = made author point ∷ so.newer;
         past_is = ap (λ (p : List Entry). made author point ∷ p) so.past_is;
         loads = loads_of (so.lists ++ []);
@@ -191,16 +196,20 @@ module _ (n : Numbers) (streams : Streams) (older : List Entry) (author session 
         then_shelf = shelf;
         told = so.told;
         gave_more = gave;
-        stores = λ all more.
+        kept_same = λ id. kept_older id (made author point) (so.newer ++ older) (keeps id);
+        allowed_then = telling.before (made author point) (so.newer ++ older);
+        stores = λ allowed all more.
             let plans = loaded_plans n streams (loads_of (so.lists ++ [])) so.newer older in
-            (so.stores [] all more, says all plans (ap (end_of session) (so.plans_are []) ∙ so.end_is));
+            (so.stores (telling.before (made author point) (so.newer ++ older) allowed) [] all more, says all plans (ap (end_of session) (so.plans_are []) ∙ so.end_is));
       }
 
       pub finished_so : HasEnded (made author (Finish session end.containers) ∷ past) after
-      finished_so = ended (Finish session end.containers) (λ all plans is. sym (ap (λ (e : ContainerEnd). e.containers) is))
+      unfolding commits_manifest
+      finished_so = ended (Finish session end.containers) (λ id. refl) (λ all plans is. sym (ap (λ (e : ContainerEnd). e.containers) is))
 
       pub given_up_so : (written : ℕ) → HasEnded (made author (Abort session end.containers written) ∷ past) after
-      given_up_so written = ended (Abort session end.containers written) (λ all plans is. inl (sym (ap (λ (e : ContainerEnd). e.containers) is)))
+      unfolding commits_manifest
+      given_up_so written = ended (Abort session end.containers written) (λ id. refl) (λ all plans is. inl (sym (ap (λ (e : ContainerEnd). e.containers) is)))
 
     -- ---- its start
 
@@ -218,7 +227,7 @@ module _ (n : Numbers) (streams : Streams) (older : List Entry) (author session 
       end_is = end_at_first n streams session older none;
       texts = [];
       told = told;
-      stores = λ tail all more. (tt, tt);
+      stores = λ allowed tail all more. (tt, tt);
     }
 
     -- ---- the segment behind a choice
@@ -256,12 +265,12 @@ module _ (n : Numbers) (streams : Streams) (older : List Entry) (author session 
       one_list : (tail : List (List Located)) → (so.lists ++ against ∷ []) ++ tail ≡ so.lists ++ against ∷ tail
       one_list tail = append_assoc so.lists (against ∷ []) tail
 
-      loads_said : (all : List (List ℕ)) → ((b : List ℕ) → In b loads_now.gave → In b all) → (tail : List (List Located)) → (plans : List Planned) → plans ≡ so.plans
+      loads_said : Allowed before → (all : List (List ℕ)) → ((b : List ℕ) → In b loads_now.gave → In b all) → (tail : List (List Located)) → (plans : List Planned) → plans ≡ so.plans
           → AreLoadsOf n streams (λ b. In b all) before plans (pending_champions session before) (loads_of (so.lists ++ against ∷ tail) next)
-      loads_said all more tail plans same =
+      loads_said allowed all more tail plans same =
           subst (λ (ps : List Planned). AreLoadsOf n streams (λ b. In b all) before ps (pending_champions session before) (loads_of (so.lists ++ against ∷ tail) next)) (sym same)
           (subst (λ (cs : List ManifestId). AreLoadsOf n streams (λ b. In b all) before so.plans cs (loads_of (so.lists ++ against ∷ tail) next)) (sym ids_now)
-          (subst (λ (ls : List Located). AreLoadsOf n streams (λ b. In b all) before so.plans ids ls) (sym (list_now tail)) (loads_now.are all more)))
+          (subst (λ (ls : List Located). AreLoadsOf n streams (λ b. In b all) before so.plans ids ls) (sym (list_now tail)) (loads_now.are allowed all more)))
 
       end_laid : (plan_for n streams next against so.plans).end ≡ end_against chunks against end n.room
       unfolding plan_for
@@ -282,17 +291,18 @@ module _ (n : Numbers) (streams : Streams) (older : List Entry) (author session 
           → (end_against chunks against end n.room).containers ≡ (plan_for n streams next (loads_of (so.lists ++ against ∷ tail) next) plans).end.containers
       laid_said tail plans same = sym ((λ i. (plan_for n streams next (list_now tail i) (same i)).end.containers) ∙ ap (λ (e : ContainerEnd). e.containers) end_laid)
 
-      aborts_said : (tail : List (List Located)) (all : List (List ℕ)) → ((b : List ℕ) → In b loads_now.gave → In b all) → is_pending session past ≡ true → (plans : List Planned) → plans ≡ so.plans
+      aborts_said : Allowed before → (tail : List (List Located)) (all : List (List ℕ)) → ((b : List ℕ) → In b loads_now.gave → In b all) → is_pending session past ≡ true → (plans : List Planned) → plans ≡ so.plans
           → AbortsLoaded n streams (loads_of (so.lists ++ against ∷ tail)) (λ b. In b all) before plans session (end_against chunks against end n.room).containers
-      aborts_said tail all more waits plans same =
+      aborts_said allowed tail all more waits plans same =
           let loads = loads_of (so.lists ++ against ∷ tail) in
           inr (
             subst (λ (p : List Entry). is_pending session p ≡ true) so.past_is waits,
-            subst (λ (id : ManifestId). AreLoadsOf n streams (λ b. In b all) before plans (pending_champions session before) (loads id)) (sym is_next) (loads_said all more tail plans same),
+            subst (λ (id : ManifestId). AreLoadsOf n streams (λ b. In b all) before plans (pending_champions session before) (loads id)) (sym is_next) (loads_said allowed all more tail plans same),
             subst (λ (id : ManifestId). (end_against chunks against end n.room).containers ≡ (plan_for n streams id (loads id) plans).end.containers) (sym is_next) (laid_said tail plans same),
           )
 
       pub given_up_pending : (after : ShelfView) (written : ℕ) → is_pending session past ≡ true → GaveMore (after_loads shelf (all_kept ids past) manifests) after → HasEnded (give_up written ∷ past) after
+      unfolding commits_manifest
       given_up_pending after written waits gave = record {
         newer = give_up written ∷ so.newer;
         past_is = ap (λ (p : List Entry). give_up written ∷ p) so.past_is;
@@ -303,9 +313,12 @@ module _ (n : Numbers) (streams : Streams) (older : List Entry) (author session 
         then_shelf = after_loads shelf (all_kept ids before) manifests;
         told = loads_now.told;
         gave_more = subst (λ (p : List Entry). GaveMore (after_loads shelf (all_kept ids p) manifests) after) so.past_is gave;
-        stores = λ all more.
+        kept_same = λ id. kept_older id (give_up written) before refl;
+        allowed_then = telling.before (give_up written) before;
+        stores = λ allowed all more.
+            let older_allowed = telling.before (give_up written) before allowed in
             let plans = loaded_plans n streams (loads_of (so.lists ++ against ∷ [])) so.newer older in
-            (so.stores (against ∷ []) all (λ b there. more b (loads_now.older_too b there)), aborts_said [] all more waits plans (so.plans_are (against ∷ [])));
+            (so.stores older_allowed (against ∷ []) all (λ b there. more b (loads_now.older_too b there)), aborts_said older_allowed [] all more waits plans (so.plans_are (against ∷ [])));
       }
 
       module _ (stored : Stored) (of : IsStoredOf chunks against end n.room stored) where
@@ -330,11 +343,11 @@ module _ (n : Numbers) (streams : Streams) (older : List Entry) (author session 
         unfolding loaded_plans loaded_after
         plans_now tail = λ i. plan_for n streams next (list_now tail i) (so.plans_are (against ∷ tail) i) ∷ so.plans_are (against ∷ tail) i
 
-        stores_now : (tail : List (List Located)) (all : List (List ℕ)) → ((b : List ℕ) → In b loads_now.gave → In b all) → StoresLoaded n streams (loads_of (so.lists ++ against ∷ tail)) (λ b. In b all) (commit_it ∷ so.newer) older
-        stores_now tail all more =
+        stores_now : Allowed before → (tail : List (List Located)) (all : List (List ℕ)) → ((b : List ℕ) → In b loads_now.gave → In b all) → StoresLoaded n streams (loads_of (so.lists ++ against ∷ tail)) (λ b. In b all) (commit_it ∷ so.newer) older
+        stores_now allowed tail all more =
             let plans = loaded_plans n streams (loads_of (so.lists ++ against ∷ tail)) so.newer older in (
-              so.stores (against ∷ tail) all (λ b there. more b (loads_now.older_too b there)),
-              (loads_said all more tail plans (so.plans_are (against ∷ tail)), stores_said tail plans (so.plans_are (against ∷ tail))),
+              so.stores allowed (against ∷ tail) all (λ b there. more b (loads_now.older_too b there)),
+              (loads_said allowed all more tail plans (so.plans_are (against ∷ tail)), stores_said tail plans (so.plans_are (against ∷ tail))),
             )
 
         pub committed_so_far : IsSoFar (length (front ++ chunks ∷ [])) (commit_it ∷ past) (after_segment (after_loads shelf (all_kept ids past) manifests) next chunks against end n.room) (end_against chunks against end n.room)
@@ -361,5 +374,5 @@ module _ (n : Numbers) (streams : Streams) (older : List Entry) (author session 
               told =
                   subst (λ (p : List Entry). Told loads_now.gave (commit_it ∷ so.newer) (plan_for n streams next against so.plans ∷ so.plans) (after_segment (after_loads shelf (all_kept ids p) manifests) next chunks against end n.room)) (sym so.past_is)
                   (subst (λ (e : ContainerEnd). Told loads_now.gave (commit_it ∷ so.newer) (plan_for n streams next against so.plans ∷ so.plans) (after_segment (after_loads shelf (all_kept ids before) manifests) next chunks against e n.room)) so.end_is told);
-              stores = λ tail all more. subst (λ (ls : List (List Located)). StoresLoaded n streams (loads_of ls) (λ b. In b all) (commit_it ∷ so.newer) older) (sym (one_list tail)) (stores_now tail all more);
+              stores = λ allowed tail all more. subst (λ (ls : List (List Located)). StoresLoaded n streams (loads_of ls) (λ b. In b all) (commit_it ∷ so.newer) older) (sym (one_list tail)) (stores_now (telling.before commit_it before allowed) tail all more);
             }

@@ -88,7 +88,7 @@ module _ (n : Numbers) (streams : Streams) (older : List Entry) (author session 
   Gave = GaveSo depot
 
   load_gave : (texts : List (List ℕ)) (newer : List Entry) (plans : List Planned) (shelf : ShelfView) (view : KeptView) (manifest : Manifest) → Gave texts newer plans shelf
-      → LoadTold n streams older author session Gave texts newer plans shelf view manifest
+      → LoadTold n streams older author session Gave (λ past. Unit {0}) texts newer plans shelf view manifest
   load_gave texts newer plans shelf view manifest so =
       let text = text_loaded manifest in
       let read = read_of (object_text (ManifestObject view.id)) 0 (48 * view.chunks) text in
@@ -100,12 +100,13 @@ module _ (n : Numbers) (streams : Streams) (older : List Entry) (author session 
           texts_are = map-append (λ (g : Given). g.bytes) so.reads (read ∷ []) ∙ ap (λ (ts : List (List ℕ)). ts ++ text ∷ []) so.texts_are;
           gave = ap (λ (told : Option (List Given)). with_more told (read ∷ [])) so.gave ∙ more_then depot.gave so.reads (read ∷ []);
         };
-        source = inl (in_append_right text texts (text ∷ []) (inl refl));
+        source = λ allowed. inl (in_append_right text texts (text ∷ []) (inl refl));
       }
 
-  is_telling : IsTelling n streams older author session Gave
+  is_telling : IsTelling n streams older author session Gave (λ past. Unit {0})
   is_telling = record {
-    load = λ texts newer plans shelf view manifest kept_is loaded so. load_gave texts newer plans shelf view manifest so;
+    before = λ entry past allowed. tt;
+    load = λ texts newer plans shelf view manifest committed kept_is loaded so. load_gave texts newer plans shelf view manifest so;
     choose = λ texts newer plans shelf chosen ids so. record { reads = so.reads; texts_are = so.texts_are; gave = so.gave };
     commit = λ rules texts newer plans shelf seq chunks against stored legal counted chunks_are of so. record {
       reads = so.reads;
@@ -123,7 +124,7 @@ module _ (n : Numbers) (streams : Streams) (older : List Entry) (author session 
     pub more : ReadsMore depot depot' reads
     pub loaded : HasLoaded n streams (recorded reads ∷ []) older past
 
-  ended-recorded : (past : List Entry) (depot' : ShelfView) → HasEnded n streams older author session Gave is_telling past depot' → Recorded past depot'
+  ended-recorded : (past : List Entry) (depot' : ShelfView) → HasEnded n streams older author session Gave (λ past. Unit {0}) is_telling past depot' → Recorded past depot'
   ended-recorded past depot' is =
       let first = is.told.reads in
       let last = is.gave_more.reads in
@@ -140,7 +141,7 @@ module _ (n : Numbers) (streams : Streams) (older : List Entry) (author session 
           loads = is.loads;
           stores =
               stores_weaker (λ b. In b (bytes_given reads)) (IsGiven (recorded reads ∷ []) past) (λ b h. inl (contains_from_in b (bytes_given reads) h)) n streams is.loads is.newer older
-              (is.stores (bytes_given reads) there);
+              (is.stores tt (bytes_given reads) there);
         };
       }
 
@@ -197,7 +198,7 @@ module _ (standings champions : ℕ) (files : ShelfView) (input name : List ℕ)
       let stream_is = finished-of_input standings champions files input name before streams objects told started streamed.last depot after depot' streamed.finished of_input in
       session-recorded started after depot'
       (ended-recorded n streams older before.author session depot (past_of after.seen) depot'
-      (finished-run standings champions files input name before streams objects told started (Gave n streams older before.author session depot) (is_telling n streams older before.author session depot) depot
+      (finished-run standings champions files input name before streams objects told started (Gave n streams older before.author session depot) (λ past. Unit {0}) (is_telling n streams older before.author session depot) depot
       (at_first n streams older before.author session depot newer (plans_of n streams older)) stream_is streamed.last after depot' streamed.finished))
   backup-recorded after depot' (Err fault) (not_started same has) of_input = not_started-recorded after depot' fault same has
   backup-recorded after depot' (Err fault) (given_up started streamed) of_input =
@@ -208,5 +209,5 @@ module _ (standings champions : ℕ) (files : ShelfView) (input name : List ℕ)
       let stream_is = failed-of_input standings champions files input name before streams objects told started streamed.last depot after depot' fault streamed.failed of_input in
       session-recorded started after depot'
       (ended-recorded n streams older before.author session depot (past_of after.seen) depot'
-      (failed-run standings champions files input name before streams objects told started (Gave n streams older before.author session depot) (is_telling n streams older before.author session depot) depot
+      (failed-run standings champions files input name before streams objects told started (Gave n streams older before.author session depot) (λ past. Unit {0}) (is_telling n streams older before.author session depot) depot
       (at_first n streams older before.author session depot newer (plans_of n streams older)) stream_is streamed.last after depot' fault streamed.failed))

@@ -42,10 +42,10 @@ module _ (standings champions : ℕ) (files : ShelfView) (input name : List ℕ)
   abbrev pub the_begin : Entry
   the_begin = made before.author (Begin name (Some the_session))
 
-  module _ (Told : List (List ℕ) → List Entry → List Planned → ShelfView → Type 0) (telling : IsTelling the_numbers streams the_older before.author the_session Told) (depot : ShelfView) (at_first : Told [] (the_begin ∷ []) (plans_of the_numbers streams the_older) depot)
+  module _ (Told : List (List ℕ) → List Entry → List Planned → ShelfView → Type 0) (Allowed : List Entry → Type 0) (telling : IsTelling the_numbers streams the_older before.author the_session Told Allowed) (depot : ShelfView) (at_first : Told [] (the_begin ∷ []) (plans_of the_numbers streams the_older) depot)
       (stream_is : streams the_session ≡ bytes_of objects input) where
     abbrev pub Ended : List Entry → ShelfView → Type 0
-    Ended = HasEnded the_numbers streams the_older before.author the_session Told telling
+    Ended = HasEnded the_numbers streams the_older before.author the_session Told Allowed telling
 
     begins_with : past_of started.caller.seen ≡ the_begin ∷ the_older
     begins_with = (begin_steps standings champions files input name before streams objects told started).past
@@ -53,14 +53,14 @@ module _ (standings champions : ℕ) (files : ShelfView) (input name : List ℕ)
     numbers_same : numbers_of started.caller.seen.profile ≡ the_numbers
     numbers_same = is_n standings champions files input name before streams objects told started
 
-    start : StandsSo the_numbers streams the_older before.author the_session Told telling standings champions 0 (at_start started.caller depot)
+    start : StandsSo the_numbers streams the_older before.author the_session Told Allowed telling standings champions 0 (at_start started.caller depot)
     start = record {
       same_author = started.begun.author;
       same_session = refl;
       same_numbers = numbers_same;
       so =
-          subst (λ (p : List Entry). IsSoFar the_numbers streams the_older before.author the_session Told telling 0 p depot (no_end the_session)) (sym begins_with)
-          (start_so_far the_numbers streams the_older before.author the_session Told telling name depot
+          subst (λ (p : List Entry). IsSoFar the_numbers streams the_older before.author the_session Told Allowed telling 0 p depot (no_end the_session)) (sym begins_with)
+          (start_so_far the_numbers streams the_older before.author the_session Told Allowed telling name depot
           (ap (commits_of the_session) (sym begins_with) ∙ (begun_open alone standings champions before.author the_session name before.seen started.caller.seen started.begun.at_turn).commit_count)
           at_first);
     }
@@ -79,18 +79,18 @@ module _ (standings champions : ℕ) (files : ShelfView) (input name : List ℕ)
         let segments = run.stored.segments in
         let given = subst (λ (m : Numbers). HasGivenAll m (input_view files input) last segments) numbers_same run.stored.given in
         let are = whole_of segments (input-whole the_numbers files input objects last told segments given) ∙ sym (append-nil segments) in
-        let stands = segments-so the_numbers streams the_older before.author the_session Told telling standings champions segments [] [] (at_start started.caller depot) run.last are start run.stored.stored in
-        finish-ended the_numbers streams the_older before.author the_session Told telling standings champions (length segments) run.last stands after depot' run.shelf_is run.finished
+        let stands = segments-so the_numbers streams the_older before.author the_session Told Allowed telling standings champions segments [] [] (at_start started.caller depot) run.last are start run.stored.stored in
+        finish-ended the_numbers streams the_older before.author the_session Told Allowed telling standings champions (length segments) run.last stands after depot' run.shelf_is run.finished
 
     pub failed-run : (last : SourceView) (after : IdleView) (depot' : ShelfView) (fault : BackupFault) → HasFailedStream alone standings champions started.caller (input_view files input) last depot after depot' fault → Ended (past_of after.seen) depot'
     failed-run last after depot' fault (unread is same_source same_shelf gives) =
-        open-ended the_numbers streams the_older before.author the_session Told telling standings champions 0 (at_start started.caller depot) start after depot' same_shelf gives
+        open-ended the_numbers streams the_older before.author the_session Told Allowed telling standings champions 0 (at_start started.caller depot) start after depot' same_shelf gives
     failed-run last after depot' fault (stopped (reading segments now work end cause is same come ends gives)) =
         let front = front_of work now segments come.split in
-        let stands = segments-so the_numbers streams the_older before.author the_session Told telling standings champions segments [] front.0 (at_start started.caller depot) end front.1 start come.stored in
-        open-ended the_numbers streams the_older before.author the_session Told telling standings champions (length segments) end stands after depot' same gives
+        let stands = segments-so the_numbers streams the_older before.author the_session Told Allowed telling standings champions segments [] front.0 (at_start started.caller depot) end front.1 start come.stored in
+        open-ended the_numbers streams the_older before.author the_session Told Allowed telling standings champions (length segments) end stands after depot' same gives
     failed-run last after depot' fault (stopped (storing segments chunks work end split all up)) =
         let front = front_of work last (segments ++ chunks ∷ []) split in
         let are = front.1 ∙ append_assoc segments (chunks ∷ []) front.0 in
-        let stands = segments-so the_numbers streams the_older before.author the_session Told telling standings champions segments [] (chunks ∷ front.0) (at_start started.caller depot) end are start all in
-        segment-ended the_numbers streams the_older before.author the_session Told telling standings champions segments front.0 chunks are end stands after depot' fault up
+        let stands = segments-so the_numbers streams the_older before.author the_session Told Allowed telling standings champions segments [] (chunks ∷ front.0) (at_start started.caller depot) end are start all in
+        segment-ended the_numbers streams the_older before.author the_session Told Allowed telling standings champions segments front.0 chunks are end stands after depot' fault up

@@ -42,12 +42,12 @@ use Rattle.backed_up_streams.proofs.KeptLaws.{all_kept_behind, champions_behind,
 use Rattle.backed_up_streams.proofs.GaveLaws.{GaveMore, gave_same, gave_then, loads_gave, stopped_loads-gave, stopped_puts-gave, failed-gave, puts_gave, segment_gave}
 use Rattle.backed_up_streams.proofs.LoadLaws.{commit_point, IsTelling, IsSoFar, HasEnded, chosen_so_far, committed_so_far, finished_so, given_up_so, given_up_pending}
 
-module _ (n : Numbers) (streams : Streams) (older : List Entry) (author session : ℕ) (Told : List (List ℕ) → List Entry → List Planned → ShelfView → Type 0) (telling : IsTelling n streams older author session Told) (standings champions : ℕ) where
+module _ (n : Numbers) (streams : Streams) (older : List Entry) (author session : ℕ) (Told : List (List ℕ) → List Entry → List Planned → ShelfView → Type 0) (Allowed : List Entry → Type 0) (telling : IsTelling n streams older author session Told Allowed) (standings champions : ℕ) where
   abbrev So : ℕ → List Entry → ShelfView → ContainerEnd → Type 0
-  So = IsSoFar n streams older author session Told telling
+  So = IsSoFar n streams older author session Told Allowed telling
 
   abbrev Ended : List Entry → ShelfView → Type 0
-  Ended = HasEnded n streams older author session Told telling
+  Ended = HasEnded n streams older author session Told Allowed telling
 
   -- where the session's caller stands
   pub record StandsSo (count : ℕ) (reached : Reached) : Type 0 where
@@ -83,7 +83,7 @@ module _ (n : Numbers) (streams : Streams) (older : List Entry) (author session 
         same_numbers = ap numbers_of is.steps_are.profile ∙ is_n;
         so =
             subst (λ (p : List Entry). So count p progress.shelf progress.end) (sym added)
-            (chosen_so_far n streams older author session Told telling count past progress.shelf progress.end wanted is.ids so);
+            (chosen_so_far n streams older author session Told Allowed telling count past progress.shelf progress.end wanted is.ids so);
         ids = is.ids;
         pending_are = ap (pending_champions session) added ∙ champions_behind author session wanted is.ids past;
         waits = ap (is_pending session) added ∙ waits_behind author session wanted is.ids past;
@@ -120,7 +120,7 @@ module _ (n : Numbers) (streams : Streams) (older : List Entry) (author session 
           (subst (λ (t : ChosenView). HasCommitted alone standings champions t stored after.caller) caller_is commits) in
           let against = located stores.manifests in
           let of = subst (λ (r : ℕ). IsStoredOf chunks against progress.end r stored) room_is stores.stored_is.stored_is in
-          let so = committed_so_far n streams older author session Told telling front rest chunks are (rules_of standings champions chosen.seen) the_past is.legal progress.shelf progress.end at.so at.ids at.pending_are stores.manifests (loaded_kept stores.manifests stores.loaded) stored of in
+          let so = committed_so_far n streams older author session Told Allowed telling front rest chunks are (rules_of standings champions chosen.seen) the_past is.legal progress.shelf progress.end at.so at.ids at.pending_are stores.manifests (loaded_kept stores.manifests stores.loaded) stored of in
           let shelf_is : after.progress.shelf ≡ after_segment (after_loads progress.shelf the_kept stores.manifests) the_id chunks against progress.end n.room =
           stores.stored_is.shelf ∙ λ i. after_segment (shelf_kept stores.manifests i) (at.manifest i) chunks against progress.end (room_is i) in
           let end_is : after.progress.end ≡ end_against chunks against progress.end n.room = stores.stored_is.end ∙ ap (λ (r : ℕ). end_against chunks against progress.end r) room_is in
@@ -143,14 +143,14 @@ module _ (n : Numbers) (streams : Streams) (older : List Entry) (author session 
         same-ends : (last : Progress) → last.end ≡ progress.end → GaveMore progress.shelf last.shelf → Ended (made author (Abort session last.end.containers written) ∷ the_past) last.shelf
         same-ends last end_is gave =
             subst (λ (e : ContainerEnd). Ended (made author (Abort session e.containers written) ∷ the_past) last.shelf) (sym end_is)
-            (given_up_so n streams older author session Told telling (length front) the_past progress.shelf progress.end at.so last.shelf gave written)
+            (given_up_so n streams older author session Told Allowed telling (length front) the_past progress.shelf progress.end at.so last.shelf gave written)
 
         -- or with those of the segment too
         laid-ends : (last : Progress) (manifests : List Manifest) → AreLoaded progress.shelf chosen.choice.champions.items manifests → last.end ≡ end_against chunks (located manifests) progress.end room
             → GaveMore (after_loads progress.shelf chosen.choice.champions.items manifests) last.shelf → Ended (made author (Abort session last.end.containers written) ∷ the_past) last.shelf
         laid-ends last manifests loaded end_is gave =
             subst (λ (e : ContainerEnd). Ended (made author (Abort session e.containers written) ∷ the_past) last.shelf) (sym (end_is ∙ ap (λ (r : ℕ). end_against chunks (located manifests) progress.end r) room_is))
-            (given_up_pending n streams older author session Told telling front rest chunks are (rules_of standings champions chosen.seen) the_past legal progress.shelf progress.end at.so at.ids at.pending_are manifests (loaded_kept manifests loaded)
+            (given_up_pending n streams older author session Told Allowed telling front rest chunks are (rules_of standings champions chosen.seen) the_past legal progress.shelf progress.end at.so at.ids at.pending_are manifests (loaded_kept manifests loaded)
             last.shelf written at.waits (subst (λ (s : ShelfView). GaveMore s last.shelf) (shelf_kept manifests) gave))
 
         unstored-ends : (last : Progress) (fault : BackupFault) → NotStoredFor chunks chosen.choice room progress last fault → Ended (made author (Abort session last.end.containers written) ∷ the_past) last.shelf
@@ -206,7 +206,7 @@ module _ (n : Numbers) (streams : Streams) (older : List Entry) (author session 
         let is = subst (λ (t : OpenView). HasAborted alone standings champions t before.progress.end.containers before.progress.texts after) open_is gives in
         let added = aborted standings champions author the_seen session before.progress.end.containers before.progress.texts after is in
         subst (λ (p : List Entry). Ended p shelf) (sym added.past)
-        (given_up_so n streams older author session Told telling count (past_of the_seen) before.progress.shelf before.progress.end at.so shelf
+        (given_up_so n streams older author session Told Allowed telling count (past_of the_seen) before.progress.shelf before.progress.end at.so shelf
         (gave_same before.progress.shelf shelf (ap (λ (s : ShelfView). s.gave) same)) before.progress.texts)
 
     pub finish-ended : (shelf : ShelfView) → shelf ≡ before.progress.shelf → HasFinished alone standings champions before.caller before.progress.end.containers after → Ended (past_of after.seen) shelf
@@ -214,7 +214,7 @@ module _ (n : Numbers) (streams : Streams) (older : List Entry) (author session 
         let is = subst (λ (t : OpenView). HasFinished alone standings champions t before.progress.end.containers after) open_is gives in
         let added = finished standings champions author the_seen session before.progress.end.containers after is in
         subst (λ (p : List Entry). Ended p shelf) (sym added.past)
-        (finished_so n streams older author session Told telling count (past_of the_seen) before.progress.shelf before.progress.end at.so shelf
+        (finished_so n streams older author session Told Allowed telling count (past_of the_seen) before.progress.shelf before.progress.end at.so shelf
         (gave_same before.progress.shelf shelf (ap (λ (s : ShelfView). s.gave) same)))
 
   -- ---- one segment

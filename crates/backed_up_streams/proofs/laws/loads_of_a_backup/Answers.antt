@@ -1,3 +1,4 @@
+use Rattle.backed_up_streams.proofs.HeldLaws
 use Rattle.backed_up_streams.proofs.RecordedLaws.{backup-recorded}
 use Rattle.backed_up_streams.proofs.laws.loads_of_a_backup.Goals as goal
 
