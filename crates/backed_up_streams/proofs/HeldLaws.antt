@@ -5,6 +5,7 @@ use Rattle.container_file.specs.declared.container_end.ContainerEnd.{ContainerEn
 use Rattle.std.specs.List.{All, flat_map}
 use Rattle.std.specs.FinMap as map
 use Rattle.std.proofs.lemmas.Bool.{false≢true, cases_Bool, eq-eqb, eqb-true}
+use Rattle.std.proofs.lemmas.List.{take_all}
 use Rattle.std.proofs.lemmas.List.Elements.{All-head, All-tail}
 use Rattle.ss_base.specs.declared.ids.ManifestId.{ManifestId}
 use Rattle.ss_base.specs.declared.ids.Place.{Place}
@@ -108,7 +109,7 @@ puts_held shelf now (put ∷ puts) is =
 
 -- ---- a manifest that is kept was committed, and its numbers fit
 
-kept_committed : (id : ManifestId) (past : List Entry) (view : KeptView) → kept id past ≡ Some view → has (commits_manifest id) past ≡ true
+pub kept_committed : (id : ManifestId) (past : List Entry) (view : KeptView) → kept id past ≡ Some view → has (commits_manifest id) past ≡ true
 unfolding kept newest
 kept_committed id [] view is = absurd (cc)
 kept_committed id (entry ∷ past) view is = elim (cases_Bool (commits_manifest id entry.point)) [
@@ -135,26 +136,20 @@ kept_now : (id : ManifestId) (entry : Entry) (past : List Entry) → commits_man
 unfolding kept newest
 kept_now id entry past does = rw does refl
 
-take_all : (k : ℕ) (xs : List ℕ) → length xs ≤ k → take k xs ≡ xs
-take_all zero [] most = refl
-take_all zero (x ∷ xs) most = absurd (omega (arith, most))
-take_all (suc k) [] most = refl
-take_all (suc k) (x ∷ xs) most = ap (λ (ys : List ℕ). x ∷ ys) (take_all k xs (omega (arith, most)))
-
 -- ---- the depot's objects while a session goes on
 
 module _ (n : Numbers) (streams : Streams) (older : List Entry) (author session : ℕ) (objects : Objects) where
-  record Facts (texts : List (List ℕ)) (newer : List Entry) (plans : List Planned) (now : Objects) : Type 0 where
-    own : (id : ManifestId) → id.session ≡ session → (view : KeptView) → kept id (newer ++ older) ≡ Some view
+  pub record Facts (texts : List (List ℕ)) (newer : List Entry) (plans : List Planned) (now : Objects) : Type 0 where
+    pub own : (id : ManifestId) → id.session ≡ session → (view : KeptView) → kept id (newer ++ older) ≡ Some view
         → part_of (bytes_of now (manifest_name id)) 0 (48 * view.chunks) ≡ manifest_text (manifest_pieces n streams id) (planned_places id plans)
-    older_same : (id : ManifestId) → id.session ≢ session → has (commits_manifest id) (newer ++ older) ≡ true → bytes_of now (manifest_name id) ≡ bytes_of objects (manifest_name id)
-    texts_held : (b : List ℕ) → In b texts → IsTextHeld objects (newer ++ older) b
+    pub older_same : (id : ManifestId) → id.session ≢ session → has (commits_manifest id) (newer ++ older) ≡ true → bytes_of now (manifest_name id) ≡ bytes_of objects (manifest_name id)
+    pub texts_held : (b : List ℕ) → In b texts → IsTextHeld objects (newer ++ older) b
 
   -- the texts were held at first; the session's own manifests are as they were planned
   pub record HeldSo (texts : List (List ℕ)) (newer : List Entry) (plans : List Planned) (shelf : ShelfView) : Type 0 where
-    now : Objects
-    held_is : shelf.held ≡ Some now
-    facts : All IsEntry (newer ++ older) → Facts texts newer plans now
+    pub now : Objects
+    pub held_is : shelf.held ≡ Some now
+    pub facts : All IsEntry (newer ++ older) → Facts texts newer plans now
 
   -- what a read gave
   read_was : (shelf : ShelfView) (now : Objects) (name text : List ℕ) (max : ℕ) → shelf.held ≡ Some now → IfSome shelf.held (λ (o : Objects). text ≡ part_of (bytes_of o name) 0 max) → text ≡ part_of (bytes_of now name) 0 max

@@ -11,3 +11,5 @@ pub mod RunLaws
 pub mod RecordedLaws
 pub mod OfStreamsLaws
 pub mod HeldLaws
+pub mod UnstartedLaws
+pub mod HeldBackupLaws

@@ -39,33 +39,10 @@ use Rattle.backed_up_streams.specs.OfInput.{IsOfInput}
 use Rattle.backed_up_streams.specs.Loaded.{HasLoaded, ReadsMore}
 use Rattle.backed_up_streams.proofs.AloneLaws.{alone, at_seen, steps}
 use Rattle.backed_up_streams.proofs.GaveLaws.{with_more, more_then, GaveMore, gave_none, segment_gave}
+use Rattle.backed_up_streams.proofs.UnstartedLaws.{stores_weaker, unstarted-loaded}
 use Rattle.backed_up_streams.proofs.LoadLaws.{text_loaded, IsTelling, LoadTold, HasEnded}
 use Rattle.backed_up_streams.proofs.BackupLaws.{finished-of_input, failed-of_input}
 use Rattle.backed_up_streams.proofs.RunLaws.{finished-run, failed-run}
-
--- ---- what other bytes could be given
-
-module _ (given other : List ℕ → Type 0) (weaker : (b : List ℕ) → given b → other b) (n : Numbers) (streams : Streams) where
-  load_weaker : (past : List Entry) (plans : List Planned) (id : ManifestId) (l : Located) → IsLoadOf n streams given past plans id l → IsLoadOf n streams other past plans id l
-  load_weaker past plans id l is = record { manifest = is.manifest; digest = is.digest; source = elim is.source [ inl read ↦ inl (weaker (manifest_text l.pieces l.places) read) | inr planned ↦ inr planned ] }
-
-  loads_weaker : (past : List Entry) (plans : List Planned) (ids : List ManifestId) (ls : List Located) → AreLoadsOf n streams given past plans ids ls → AreLoadsOf n streams other past plans ids ls
-  loads_weaker past plans [] [] are = are
-  loads_weaker past plans [] (l ∷ ls) are = absurd are
-  loads_weaker past plans (id ∷ ids) [] are = absurd are
-  loads_weaker past plans (id ∷ ids) (l ∷ ls) are = (load_weaker past plans id l are.0, loads_weaker past plans ids ls are.1)
-
-  entry_weaker : (loads : Loads) (past : List Entry) (plans : List Planned) (point : Point) → LoadedOf n streams loads given past plans point → LoadedOf n streams loads other past plans point
-  entry_weaker loads past plans (Commit id content text chunks bytes fresh fresh_bytes uses) (are, stores) = (loads_weaker past plans (pending_champions id.session past) (loads id) are, stores)
-  entry_weaker loads past plans (Abort session containers texts) (inl laid) = inl laid
-  entry_weaker loads past plans (Abort session containers texts) (inr (waits, are, laid)) =
-      inr (waits, loads_weaker past plans (pending_champions session past) (loads (next_of session past)) are, laid)
-  entry_weaker loads past plans _ says = says
-
-  pub stores_weaker : (loads : Loads) (newer older : List Entry) → StoresLoaded n streams loads given newer older → StoresLoaded n streams loads other newer older
-  stores_weaker loads [] older stores = stores
-  stores_weaker loads (entry ∷ newer) older stores =
-      (stores_weaker loads newer older stores.0, entry_weaker loads (newer ++ older) (loaded_plans n streams loads newer older) entry.point stores.1)
 
 contains_from_in : {X : Type 0} (x : X) (xs : List X) → In x xs → Contains xs x
 contains_from_in x [] h = absurd h
@@ -145,42 +122,18 @@ module _ (n : Numbers) (streams : Streams) (older : List Entry) (author session 
         };
       }
 
-  -- where nothing was stored
-  pub nothing-recorded : (newer past : List Entry) (depot' : ShelfView) → depot' ≡ depot → past ≡ newer ++ older
-      → StoresLoaded n streams (λ id. []) (IsGiven (recorded [] ∷ []) past) newer older → Recorded past depot'
-  nothing-recorded newer past depot' same past_is stores = record {
-    reads = [];
-    more = let none = gave_none depot in ap (λ (s : ShelfView). s.gave) same ∙ none;
-    loaded = record { newer = newer; past_is = past_is; loads = λ id. []; stores = stores };
-  }
-
 -- ---- a backup
 
 module _ (standings champions : ℕ) (files : ShelfView) (input name : List ℕ) (before : IdleView) (streams : Streams) (objects : Objects) (told : files.held ≡ Some objects) (depot : ShelfView) where
   abbrev Is : IdleView → ShelfView → Type 0
   Is after depot' = Recorded (numbers_of before.seen.profile) streams (past_of before.seen) before.author 0 depot (past_of after.seen) depot'
 
-  unchanged-recorded : (after : IdleView) (depot' : ShelfView) → depot' ≡ depot → past_of after.seen ≡ past_of before.seen → Is after depot'
-  unchanged-recorded after depot' same past_is =
-      nothing-recorded (numbers_of before.seen.profile) streams (past_of before.seen) before.author 0 depot [] (past_of after.seen) depot' same past_is tt
-
-  unbegun-recorded : (cause : BeginFault) (after : IdleView) (depot' : ShelfView) → depot' ≡ depot → HasNotBegun alone standings champions before name after cause → Is after depot'
-  unbegun-recorded begin.Taken after depot' same has =
-      let done = at_seen standings champions before.author before.seen (λ turn. BeginAnswer turn after.seen before.author name (Err begin.Taken)) has.at_turn in
-      let entry = made before.author (Begin name None) in
-      nothing-recorded (numbers_of before.seen.profile) streams (past_of before.seen) before.author 0 depot (entry ∷ []) (past_of after.seen) depot' same
-      (steps standings champions before.author before.seen after.seen entry done.1).past (tt, tt)
-  unbegun-recorded begin.Full after depot' same has =
-      let done = at_seen standings champions before.author before.seen (λ turn. BeginAnswer turn after.seen before.author name (Err begin.Full)) has.at_turn in
-      unchanged-recorded after depot' same (ap past_of done.same)
-  unbegun-recorded begin.Memory after depot' same has =
-      let done = at_seen standings champions before.author before.seen (λ turn. BeginAnswer turn after.seen before.author name (Err begin.Memory)) has.at_turn in
-      unchanged-recorded after depot' same (ap past_of done)
-
   not_started-recorded : (after : IdleView) (depot' : ShelfView) (fault : BackupFault) → depot' ≡ depot → HasNotStarted alone standings champions files input name before after fault → Is after depot'
-  not_started-recorded after depot' fault same (unasked cause is same_caller) = unchanged-recorded after depot' same (ap (λ (i : IdleView). past_of i.seen) same_caller)
-  not_started-recorded after depot' fault same (absent is not_there same_caller) = unchanged-recorded after depot' same (ap (λ (i : IdleView). past_of i.seen) same_caller)
-  not_started-recorded after depot' fault same (unbegun cause is there has) = unbegun-recorded cause after depot' same has
+  not_started-recorded after depot' fault same has = record {
+    reads = [];
+    more = let none = gave_none depot in ap (λ (s : ShelfView). s.gave) same ∙ none;
+    loaded = unstarted-loaded standings champions files input name before streams (recorded [] ∷ []) after fault has;
+  }
 
   session-recorded : (started : HasStarted alone standings champions files input name before) (after : IdleView) (depot' : ShelfView)
       → Recorded (numbers_of before.seen.profile) streams (past_of before.seen) before.author started.caller.session depot (past_of after.seen) depot' → Is after depot'

@@ -14,7 +14,7 @@ ghost use Rattle.session.specs.Backup.{BackupAnswer};
 ghost use Rattle.stored_streams.specs.Streams.{Streams};
 ghost use Rattle.stored_streams.specs.OfStreams.{HasContents, IsOfStreams};
 ghost use Rattle.stored_streams.specs.Reads.{IsGiven};
-ghost use Rattle.stored_streams.specs.Reads.Reads.{recorded};
+ghost use Rattle.stored_streams.specs.Reads.Reads.{recorded, held};
 ghost use Rattle.stored_streams.specs.Collision.{Collide};
 ghost use Rattle.backed_up_streams.specs.OfInput.{IsOfInput};
 ghost use Rattle.backed_up_streams.specs.Loaded.{HasLoaded, ReadsMore};
@@ -33,7 +33,8 @@ pub fn contents_of_a_backup()
 
 /// Such a backup stores each segment against the manifests that it loaded for the segment's champions: with the digests
 /// that their commits kept, behind what the session has laid out so far, and ends with as many containers as it has come
-/// to. Where the depot tells its reads, those made meanwhile gave the manifests. It runs nothing.
+/// to. Where the depot tells its reads, those made meanwhile gave the manifests; where it tells its objects, what it held at
+/// first gave those of other sessions, and those of its own are as they were planned. It runs nothing.
 pub fn loads_of_a_backup()
     ensures recorded { (streams : Streams) (objects : Objects) (standings champions : ℕ) (files : ShelfView) (input name : List ℕ) (before : IdleView) (depot : ShelfView) (after : IdleView) (depot' : ShelfView) (result : Result ℕ BackupFault)
         → BackupAnswer (λ came. came ≡ []) standings champions files input name before depot after depot' result
@@ -41,6 +42,13 @@ pub fn loads_of_a_backup()
         → IsOfInput streams (past_of before.seen) (past_of after.seen) (bytes_of objects input)
         → (reads : List Given) × ReadsMore depot depot' reads
         × HasLoaded (numbers_of before.seen.profile) streams (recorded reads ∷ []) (past_of before.seen) (past_of after.seen) }
+    ensures held { (streams : Streams) (objects stored : Objects) (standings champions : ℕ) (files : ShelfView) (input name : List ℕ) (before : IdleView) (depot : ShelfView) (after : IdleView) (depot' : ShelfView) (result : Result ℕ BackupFault)
+        → BackupAnswer (λ came. came ≡ []) standings champions files input name before depot after depot' result
+        → files.held ≡ Some objects
+        → depot.held ≡ Some stored
+        → IsOfInput streams (past_of before.seen) (past_of after.seen) (bytes_of objects input)
+        → All IsEntry (past_of after.seen)
+        → HasLoaded (numbers_of before.seen.profile) streams (held stored ∷ []) (past_of before.seen) (past_of after.seen) }
 {}
 
 /// Behind a history of the streams such a backup leaves one, or two different byte lists among those that were hashed
@@ -56,4 +64,14 @@ pub fn streams_of_a_backup()
         → (reads : List Given) × ReadsMore depot depot' reads
         × (IsOfStreams (numbers_of before.seen.profile) streams (past_of after.seen)
         ⊎ Collide (numbers_of before.seen.profile) streams (past_of after.seen) (IsGiven (recorded reads ∷ []) (past_of after.seen))) }
+    ensures held { (streams : Streams) (objects stored : Objects) (rules : Rules) (standings champions : ℕ) (files : ShelfView) (input name : List ℕ) (before : IdleView) (depot : ShelfView) (after : IdleView) (depot' : ShelfView) (result : Result ℕ BackupFault)
+        → BackupAnswer (λ came. came ≡ []) standings champions files input name before depot after depot' result
+        → files.held ≡ Some objects
+        → depot.held ≡ Some stored
+        → IsOfInput streams (past_of before.seen) (past_of after.seen) (bytes_of objects input)
+        → is_legal rules (past_of after.seen) ≡ true
+        → All IsEntry (past_of after.seen)
+        → IsOfStreams (numbers_of before.seen.profile) streams (past_of before.seen)
+        → IsOfStreams (numbers_of before.seen.profile) streams (past_of after.seen)
+        ⊎ Collide (numbers_of before.seen.profile) streams (past_of after.seen) (IsGiven (held stored ∷ []) (past_of after.seen)) }
 {}
