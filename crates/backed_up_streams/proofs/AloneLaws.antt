@@ -1,10 +1,10 @@
 -- What each call of a session adds for a caller that has the history to itself.
-use Rattle.std.proofs.Common.{◌≡◌, ℕ, true, List, [], ◌∷◌, ◌++◌, Some, None, Ok, Err, refl, sym, ap, ◌∙◌, subst}
+use Rattle.std.proofs.Common.{◌≡◌, ℕ, true, List, [], ◌∷◌, ◌++◌, Ok, Err, ap, ◌∙◌, subst}
 use Rattle.std.proofs.lemmas.List.{append-nil}
 use Rattle.ss_base.specs.declared.ids.ManifestId.{ManifestId}
 use Rattle.ss_base.specs.declared.name.Name.{Name}
 use Rattle.journal_entry.specs.declared.entry.Entry.{Entry}
-use Rattle.journal_entry.specs.declared.entry.Point.TheVariants.{Begin, Choose, Finish, Abort}
+use Rattle.journal_entry.specs.declared.entry.Point.TheVariants.{Choose, Finish, Abort}
 use Rattle.history.specs.Legal.{is_legal}
 use Rattle.history.specs.Sessions.{commits_of}
 use Rattle.history.specs.StandingList.{champions_for}

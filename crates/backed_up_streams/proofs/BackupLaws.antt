@@ -1,5 +1,5 @@
 -- What a backup chooses and commits is of its input.
-use Rattle.std.proofs.Common.{◌≡◌, ℕ, Bool, true, false, cond, List, [], ◌∷◌, ◌++◌, length, Option, Some, None, Result, Ok, Err, refl, sym, ap, ◌∙◌, subst, append_assoc}
+use Rattle.std.proofs.Common.{◌≡◌, ℕ, Bool, true, false, cond, List, [], ◌∷◌, ◌++◌, length, Some, None, Result, Ok, Err, refl, sym, ap, ◌∙◌, subst, append_assoc}
 use Rattle.std.proofs.lemmas.List.{append-nil}
 use Rattle.ss_base.specs.declared.profile.Numbers.{Numbers}
 use Rattle.ss_base.specs.Profile.{numbers_of}
@@ -11,7 +11,7 @@ use Rattle.segment_reader.specs.SegmentsOf.{segments_of}
 use Rattle.segment_reader.specs.WorkState.{WorkState}
 use Rattle.journal_entry.specs.declared.entry.Entry.{Entry}
 use Rattle.journal_entry.specs.declared.entry.Point.TheVariants.{Begin, Finish, Abort}
-use Rattle.history.specs.Legal.{is_legal, reply_to_begin}
+use Rattle.history.specs.Legal.{reply_to_begin}
 use Rattle.history.specs.Sessions.{begins, session_begun, has, session_count, is_held}
 use Rattle.history_laws.proofs.SessionLaws.{has_now, has_older}
 use Rattle.history_laws.proofs.UnfinishedLaws.{next_unbegun}
@@ -21,14 +21,14 @@ use Rattle.store_core.specs.View.{StateView, past_of, rules_of, made}
 use Rattle.store_core.specs.Answers.{BeginAnswer}
 use Rattle.depot.specs.declared.fault.BackupFault.{BackupFault}
 use Rattle.history_calls.specs.Tokens.{IdleView, OpenView, ChosenView}
-use Rattle.history_calls.specs.SessionSteps.{HasNotBegun, HasFinished, HasAborted, HasAbortedChosen, HasNotCommitted, HasChosen}
+use Rattle.history_calls.specs.SessionSteps.{HasNotBegun, HasFinished, HasAborted, HasAbortedChosen, HasNotCommitted}
 use Rattle.history_calls.proofs.TurnLaws.{begun_open}
 use Rattle.segment_store.specs.Storing.{Progress}
 use Rattle.session.specs.Split.{HasSplit, HasGivenAll}
 use Rattle.session.specs.Stops.{HasGivenUpChosen, HasGivenUp}
 use Rattle.session.specs.Stops.HasGivenUpChosen.{unstored, uncommitted}
 use Rattle.session.specs.Stops.HasGivenUp.{unsampled, unchosen, behind}
-use Rattle.session.specs.Stores.{Reached, no_end}
+use Rattle.session.specs.Stores.{no_end}
 use Rattle.session.specs.Runs.{HasFinishedStream, HasFailedStream}
 use Rattle.session.specs.Runs.HasStoppedStream.{reading, storing}
 use Rattle.session.specs.Runs.HasFailedStream.{unread, stopped}
@@ -39,7 +39,7 @@ use Rattle.stored_streams.specs.Streams.{Streams, segment_count}
 use Rattle.stored_streams.specs.OfStreams.{HasContents}
 use Rattle.backed_up_streams.specs.OfInput.{IsOfInput}
 use Rattle.backed_up_streams.proofs.AloneLaws.{alone, open_at, chosen_at, is_open_at, is_chosen_at, Steps, steps, at_seen, legal_at, not_chosen, not_committed, finished, aborted, aborted_chosen}
-use Rattle.backed_up_streams.proofs.ContentLaws.{HasCome, StandsAt, WaitsAt, contents_more, self, choice-waits, segments-stand}
+use Rattle.backed_up_streams.proofs.ContentLaws.{HasCome, WaitsAt, contents_more, self, choice-waits, segments-stand}
 use Rattle.backed_up_streams.proofs.InputLaws.{input-whole, input-front}
 
 -- ---- the session that a Begin is given

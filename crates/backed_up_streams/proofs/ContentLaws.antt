@@ -1,9 +1,8 @@
 -- What a session chooses and commits is of its stream.
-use Rattle.std.proofs.Common.{◌≡◌, ℕ, ◌+◌, ◌<◌, ◌==◌, true, List, [], ◌∷◌, ◌++◌, length, refl, sym, ap, ◌∙◌, subst, arith, append_assoc, length-append}
+use Rattle.std.proofs.Common.{◌≡◌, ℕ, ◌<◌, ◌==◌, true, List, [], ◌∷◌, ◌++◌, length, refl, sym, ap, ◌∙◌, subst, arith, append_assoc, length-append}
 use Rattle.std.proofs.lemmas.Bool.{eq-eqb}
 use Rattle.std.proofs.lemmas.List.{append-nil}
 use Rattle.ss_base.specs.declared.ids.ManifestId.{ManifestId}
-use Rattle.ss_base.specs.declared.name.Name.{Name}
 use Rattle.ss_base.specs.declared.name.Piece.{Piece}
 use Rattle.ss_base.specs.declared.profile.Numbers.{Numbers}
 use Rattle.ss_base.specs.Profile.{numbers_of}
@@ -11,25 +10,23 @@ use Rattle.ss_base.proofs.MemberLaws.{count_one}
 use Rattle.chunk_name.specs.Pieces.{pieces, name_of_bytes}
 use Rattle.hook_sampler.specs.Hooks.{hooks}
 use Rattle.manifest_codec.specs.PiecesPart.{pieces_part}
-use Rattle.segment_plan.specs.Planned.{located, total_len}
+use Rattle.segment_plan.specs.Planned.{total_len}
 use Rattle.segment_reader.specs.SegmentsOf.{segments_of}
 use Rattle.journal_entry.specs.declared.entry.Entry.{Entry}
 use Rattle.journal_entry.specs.declared.entry.Point.{Point}
-use Rattle.journal_entry.specs.declared.entry.Point.TheVariants.{Begin, Choose, Commit, Finish, Abort}
-use Rattle.history.specs.Sessions.{commits, commits_of, begins, session_begun, has}
+use Rattle.journal_entry.specs.declared.entry.Point.TheVariants.{Choose, Commit}
+use Rattle.history.specs.Sessions.{commits, commits_of, begins, has}
 use Rattle.history_laws.proofs.SessionLaws.{has_older}
 use Rattle.store_core.specs.declared.values.Stored.{Stored}
 use Rattle.store_core.specs.View.{StateView, past_of, made}
-use Rattle.store_core.specs.Answers.{commit_entry}
 use Rattle.history_calls.specs.Tokens.{OpenView, ChosenView}
 use Rattle.history_calls.specs.SessionSteps.{HasChosen, HasCommitted}
-use Rattle.segment_store.specs.Stored.{IsStoredOf}
 use Rattle.segment_store.specs.Storing.{Progress}
-use Rattle.session.specs.Stores.{Reached, HasStored, HasStoredAll, HasStoredChosen}
+use Rattle.session.specs.Stores.{Reached, HasStored, HasStoredAll}
 use Rattle.stored_streams.specs.Streams.{Streams, manifest_pieces, segment_count}
-use Rattle.stored_streams.specs.OfStreams.{next_of, ContentOf, IsComplete, ChoosesSegment, HoldsSegment, HasContents}
-use Rattle.backed_up_streams.proofs.AloneLaws.{alone, open_at, chosen_at, is_open_at, is_chosen_at, chose, committed}
-use Rattle.backed_up_streams.proofs.SegmentLaws.{next_id, next_chunks, next_pieces, next_there}
+use Rattle.stored_streams.specs.OfStreams.{ContentOf, IsComplete, ChoosesSegment, HoldsSegment, HasContents}
+use Rattle.backed_up_streams.proofs.AloneLaws.{alone, open_at, is_open_at, is_chosen_at, chose, committed}
+use Rattle.backed_up_streams.proofs.SegmentLaws.{next_pieces, next_there}
 
 pub contents_more : (n : Numbers) (streams : Streams) (author : ℕ) (point : Point) (past : List Entry) → HasContents n streams past → ContentOf n streams past point → IsComplete n streams past point → HasContents n streams (made author point ∷ past)
 contents_more n streams author point past has content complete = record { contents = (has.contents, content); complete = (has.complete, complete) }

@@ -1,5 +1,5 @@
 -- What a depot's shelf tells of its reads, over the calls of a session.
-use Rattle.std.proofs.Common.{◌≡◌, ℕ, ◌*◌, Bool, true, false, List, [], ◌∷◌, ◌++◌, length, Option, Some, None, Err, refl, sym, ap, ◌∙◌, subst, inl, inr, append_assoc}
+use Rattle.std.proofs.Common.{◌≡◌, ℕ, ◌*◌, List, [], ◌∷◌, ◌++◌, Option, Some, None, Err, refl, sym, ap, ◌∙◌, inl, inr, append_assoc}
 use Rattle.std.specs.Option.{option_map}
 use Rattle.std.proofs.lemmas.Bool.{cases_Bool}
 use Rattle.std.proofs.lemmas.List.{append-nil}
@@ -11,14 +11,13 @@ use Rattle.manifest_codec.specs.Text.{manifest_text}
 use Rattle.container_file.specs.declared.container_end.ContainerEnd.{ContainerEnd}
 use Rattle.container_file.specs.Layout.{Written as PutBytes}
 use Rattle.segment_plan.specs.Plan.{Located, puts_against}
-use Rattle.segment_plan.specs.Planned.{located}
 use Rattle.outside.specs.Shelf.{Objects, Given, one_more, read_of}
 use Rattle.outside.specs.Views.{ShelfView}
 use Rattle.outside.specs.declared.trouble.Trouble.{Trouble}
 use Rattle.store_core.specs.View.{KeptView}
 use Rattle.depot.specs.declared.fault.LoadFault.{LoadFault}
 use Rattle.depot.specs.declared.fault.LoadFault.TheVariants.{Shelf, Damaged, Unlike, Memory}
-use Rattle.depot.specs.Calls.{HasRead, HasFailed, WantsMemory}
+use Rattle.depot.specs.Calls.{HasRead, HasFailed}
 use Rattle.depot.specs.Loading.{LoadAnswer}
 use Rattle.depot.specs.Storing.{PutLeaves, after_put, after_puts}
 use Rattle.depot.specs.Storing.{IsStopped as IsPutStopped}

@@ -1,7 +1,7 @@
 -- What a backup stores against what its depot held at first.
-use Rattle.std.proofs.Common.{◌≡◌, ◌⊎◌, ℕ, true, false, List, [], ◌∷◌, ◌++◌, Some, None, Result, Ok, Err, refl, sym, ap, ◌∙◌, subst, inl, inr}
+use Rattle.std.proofs.Common.{◌≡◌, ℕ, true, false, List, [], ◌∷◌, ◌++◌, Some, Result, Ok, Err, refl, sym, ◌∙◌, subst, inl, inr}
 use Rattle.std.specs.List.{All}
-use Rattle.std.proofs.lemmas.Bool.{false≢true, both_ways}
+use Rattle.std.proofs.lemmas.Bool.{false≢true}
 use Rattle.ss_base.specs.declared.ids.ManifestId.{ManifestId}
 use Rattle.ss_base.specs.declared.profile.Numbers.{Numbers}
 use Rattle.ss_base.specs.Profile.{numbers_of}
@@ -16,7 +16,7 @@ use Rattle.history.specs.Legal.{is_legal}
 use Rattle.history.specs.Need.{commits_manifest}
 use Rattle.history.specs.Sessions.{begins, has}
 use Rattle.history_laws.proofs.SessionLaws.{has_cases, committed_begun}
-use Rattle.store_core.specs.View.{KeptView, past_of, rules_of, kept, made}
+use Rattle.store_core.specs.View.{past_of, rules_of, kept, made}
 use Rattle.store_core.specs.Answers.{BeginAnswer}
 use Rattle.depot.specs.declared.fault.BackupFault.{BackupFault}
 use Rattle.history_calls.specs.Tokens.{IdleView}
@@ -31,7 +31,7 @@ use Rattle.backed_up_streams.specs.Loaded.{HasLoaded}
 use Rattle.backed_up_streams.proofs.AloneLaws.{alone, legal_at}
 use Rattle.backed_up_streams.proofs.UnstartedLaws.{stores_weaker, unstarted-loaded}
 use Rattle.backed_up_streams.proofs.LoadLaws.{HasEnded}
-use Rattle.backed_up_streams.proofs.HeldLaws.{kept_committed, HeldSo, Facts, is_holding}
+use Rattle.backed_up_streams.proofs.HeldLaws.{kept_committed, HeldSo, is_holding}
 use Rattle.backed_up_streams.proofs.BackupLaws.{not_begun, finished-of_input, failed-of_input}
 use Rattle.backed_up_streams.proofs.RunLaws.{finished-run, failed-run}
 
@@ -49,7 +49,7 @@ module _ (n : Numbers) (streams : Streams) (older : List Entry) (author session 
       let facts = is.told.facts (is.allowed_then entries_now) in
       let there : (b : List ℕ) → In b is.texts → IsGiven (held objects ∷ []) past b =
       λ b h. inl (inl (subst (λ (p : List Entry). IsTextHeld objects p b) (sym is.past_is)
-          (still_held (is.then_newer ++ older) (is.newer ++ older) b is.kept_same (facts.texts_held b h)))) in
+      (still_held (is.then_newer ++ older) (is.newer ++ older) b is.kept_same (facts.texts_held b h)))) in
       record {
         newer = is.newer;
         past_is = is.past_is;
@@ -65,7 +65,7 @@ module _ (n : Numbers) (streams : Streams) (older : List Entry) (author session 
     never_own : (id : ManifestId) → id.session ≡ session → has (commits_manifest id) (begun ∷ older) ≡ true → ⊥
     unfolding commits_manifest
     never_own id same there =
-        let earlier : has (commits_manifest id) older ≡ true = elim (has_cases (commits_manifest id) begun older there) [ | inl here ↦ absurd (false≢true here) | inr before ↦ before ] in
+        let earlier : has (commits_manifest id) older ≡ true = elim (has_cases (commits_manifest id) begun older there) [ inl here ↦ absurd (false≢true here) | inr before ↦ before ] in
         let was = subst (λ (s : ℕ). has (begins s) older ≡ true) same (committed_begun rules id older legal earlier) in
         false≢true (sym unbegun ∙ was)
 

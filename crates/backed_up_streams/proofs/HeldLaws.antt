@@ -1,5 +1,5 @@
 -- A depot that tells its objects.
-use Rattle.std.proofs.Common.{◌≡◌, ◌≢◌, ◌⊎◌, ℕ, zero, suc, ◌==◌, ◌+◌, ◌*◌, ◌<◌, ◌≤◌, Bool, true, false, List, [], ◌∷◌, ◌++◌, length, take, drop, Option, Some, None, IfSome, refl, sym, ap, ◌∙◌, subst, inl, inr, arith, length-append, get_or}
+use Rattle.std.proofs.Common.{◌≡◌, ◌≢◌, ℕ, ◌==◌, ◌*◌, ◌≤◌, true, false, List, [], ◌∷◌, ◌++◌, length, Option, Some, IfSome, refl, sym, ap, ◌∙◌, subst, inl, inr, arith, length-append, get_or}
 use Rattle.std.specs.Option.{option_map, unwrap_or}
 use Rattle.container_file.specs.declared.container_end.ContainerEnd.{ContainerEnd}
 use Rattle.std.specs.List.{All, flat_map}
@@ -17,7 +17,7 @@ use Rattle.ss_base.specs.Ids.{same_manifest}
 use Rattle.ss_base.specs.ObjectName.{object_text}
 use Rattle.ss_base.proofs.IdLaws.{same_manifest-self, same_manifest-true}
 use Rattle.ss_base.proofs.MemberLaws.{In, append_in, in_append_left, in_append_right}
-use Rattle.chunk_name.specs.Pieces.{piece, pieces}
+use Rattle.chunk_name.specs.Pieces.{pieces}
 use Rattle.manifest_codec.specs.declared.manifest.Manifest.{Manifest}
 use Rattle.manifest_codec.specs.PiecesPart.{pieces_part, piece_text}
 use Rattle.manifest_codec.specs.Text.{manifest_text, places_part, place_text}
@@ -45,7 +45,7 @@ use Rattle.segment_store.specs.Loads.{after_load}
 use Rattle.segment_store.specs.Stored.{text_against, after_segment, IsStoredOf}
 use Rattle.stored_streams.specs.Streams.{Streams, manifest_chunks, manifest_pieces}
 use Rattle.stored_streams.specs.Plans.{Planned, plan_of, planned_places, end_of, plan_for}
-use Rattle.stored_streams.specs.Reads.{text_held, IsTextHeld}
+use Rattle.stored_streams.specs.Reads.{IsTextHeld}
 use Rattle.stored_streams.proofs.CommittedLaws.{kept_older}
 use Rattle.stored_streams.proofs.NameLaws.{same_object_text}
 use Rattle.stored_streams.proofs.PlanLaws.{places_newest}
@@ -209,7 +209,7 @@ module _ (n : Numbers) (streams : Streams) (older : List Entry) (author session 
             let facts = so.facts (All-tail IsEntry entry past entries) in
             record {
               own = λ id same view is. facts.own id same view (sym (kept_older id entry past refl) ∙ is);
-              older_same = λ id differ there. facts.older_same id differ (elim (has_cases (commits_manifest id) entry past there) [ | inl here ↦ absurd (false≢true here) | inr before ↦ before ]);
+              older_same = λ id differ there. facts.older_same id differ (elim (has_cases (commits_manifest id) entry past there) [ inl here ↦ absurd (false≢true here) | inr before ↦ before ]);
               texts_held = λ b there.
                   let held = facts.texts_held b there in
                   record { view = held.view; is_kept = kept_older held.view.id entry past refl ∙ held.is_kept; text = held.text };

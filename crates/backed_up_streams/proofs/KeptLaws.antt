@@ -1,12 +1,11 @@
 -- What is kept of a committed manifest, and the containers of a session.
-use Rattle.std.proofs.Common.{◌≡◌, ℕ, ◌==◌, ◌+◌, Bool, Option, true, false, List, [], ◌∷◌, ◌++◌, Some, None, refl, sym, ap, ◌∙◌, subst, inl, inr, arith}
+use Rattle.std.proofs.Common.{◌≡◌, ℕ, ◌==◌, Bool, Option, true, false, List, [], ◌∷◌, Some, None, refl, sym, ap, ◌∙◌, inl, inr, arith}
 use Rattle.std.specs.Option.{option_and_then, unwrap_or, is_some}
 use Rattle.std.specs.List.{filter_map}
 use Rattle.std.proofs.lemmas.Bool.{false≢true, cases_Bool, eq-eqb, eqb-true, false_from_ne_true}
 use Rattle.ss_base.specs.declared.ids.ManifestId.{ManifestId}
 use Rattle.ss_base.specs.declared.name.Name.{Name}
 use Rattle.ss_base.specs.declared.profile.Numbers.{Numbers}
-use Rattle.ss_base.specs.Ids.{same_manifest}
 use Rattle.ss_base.proofs.IdLaws.{same_manifest-true}
 use Rattle.ss_base.proofs.MemberLaws.{count_one, count_other}
 use Rattle.journal_entry.specs.declared.entry.Entry.{Entry}
@@ -16,7 +15,6 @@ use Rattle.history.specs.Need.{commits_manifest}
 use Rattle.history.specs.Sessions.{has, newest, commits, commits_of, chooses, settles, champions_chosen, pending, pending_champions, is_pending}
 use Rattle.history_laws.proofs.SessionLaws.{has_none, has_cases}
 use Rattle.store_core.specs.View.{KeptView, kept, kept_by, all_kept, made}
-use Rattle.container_file.specs.declared.container_end.ContainerEnd.{ContainerEnd}
 use Rattle.stored_streams.specs.Streams.{Streams}
 use Rattle.stored_streams.specs.Plans.{Planned, no_containers, last_plan, end_of, plan_for, next_plan, plans_after, plans_of}
 use Rattle.stored_streams.proofs.CommittedLaws.{kept_older}

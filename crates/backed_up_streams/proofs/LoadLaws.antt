@@ -1,23 +1,17 @@
 -- What a session's loads gave, and what it stores against them.
-use Rattle.std.proofs.Common.{◌≡◌, ℕ, ◌==◌, ◌+◌, ◌*◌, ◌⊎◌, true, false, List, [], ◌∷◌, ◌++◌, length, Option, Some, None, refl, sym, ap, ◌∙◌, subst, inl, inr, arith, append_assoc, length-append}
-use mathlib.Core.List.{map}
+use Rattle.std.proofs.Common.{◌≡◌, ℕ, ◌==◌, ◌⊎◌, true, false, List, [], ◌∷◌, ◌++◌, length, Option, Some, refl, sym, ap, ◌∙◌, subst, inl, inr, arith, append_assoc, length-append}
 use Rattle.std.specs.List.{slice_index_or}
-use Rattle.std.specs.Option.{unwrap_or, option_map}
-use Rattle.std.proofs.lemmas.List.{append-nil}
+use Rattle.std.specs.Option.{unwrap_or}
 use Rattle.ss_base.specs.declared.ids.ManifestId.{ManifestId}
 use Rattle.ss_base.specs.declared.name.Name.{Name}
-use Rattle.ss_base.specs.declared.name.Piece.{Piece}
 use Rattle.ss_base.specs.declared.profile.Numbers.{Numbers}
-use Rattle.ss_base.specs.Profile.{numbers_of}
 use Rattle.ss_base.specs.Ids.{same_manifest, has_manifest}
 use Rattle.ss_base.proofs.IdLaws.{same_manifest-self}
 use Rattle.ss_base.proofs.MemberLaws.{In, in_any, count_one}
-use Rattle.chunk_name.specs.Pieces.{piece, pieces, name_of_bytes}
-use Rattle.hook_sampler.specs.Hooks.{hooks}
 use Rattle.manifest_codec.specs.declared.manifest.Manifest.{Manifest}
 use Rattle.manifest_codec.specs.Text.{manifest_text}
 use Rattle.container_file.specs.declared.container_end.ContainerEnd.{ContainerEnd}
-use Rattle.segment_plan.specs.Plan.{Located, places_against, end_against}
+use Rattle.segment_plan.specs.Plan.{Located, end_against}
 use Rattle.segment_plan.specs.Planned.{located}
 use Rattle.segment_reader.specs.SegmentsOf.{segments_of}
 use Rattle.outside.specs.Views.{ShelfView}
@@ -30,7 +24,7 @@ use Rattle.history.specs.Need.{commits_manifest}
 use Rattle.history.specs.Sessions.{commits, commits_of, has, pending_champions, is_pending}
 use Rattle.history_laws.proofs.LiveLaws.{pending_committed}
 use Rattle.store_core.specs.declared.values.Stored.{Stored}
-use Rattle.store_core.specs.View.{StateView, KeptView, past_of, kept, all_kept, made}
+use Rattle.store_core.specs.View.{KeptView, kept, all_kept, made}
 use Rattle.depot.specs.Loading.{IsLoaded}
 use Rattle.segment_store.specs.Loads.{after_load, after_loads, AreLoaded}
 use Rattle.segment_store.specs.Stored.{after_segment, IsStoredOf}
@@ -38,12 +32,12 @@ use Rattle.session.specs.Stores.{no_end}
 use Rattle.stored_streams.specs.Streams.{Streams, manifest_chunks, manifest_pieces}
 use Rattle.stored_streams.specs.Plans.{Planned, planned_places, end_of, plan_for, plans_of}
 use Rattle.stored_streams.specs.OfStreams.{next_of, StoresSegment}
-use Rattle.stored_streams.specs.Loads.{Loads, loaded_text, loaded_after, loaded_plans, IsLoadOf, AreLoadsOf, AbortsLoaded, LoadedOf, StoresLoaded}
+use Rattle.stored_streams.specs.Loads.{Loads, loaded_after, loaded_plans, IsLoadOf, AreLoadsOf, AbortsLoaded, LoadedOf, StoresLoaded}
 use Rattle.stored_streams.proofs.CommittedLaws.{kept_older}
 use Rattle.backed_up_streams.proofs.ContentLaws.{self}
 use Rattle.backed_up_streams.proofs.GaveLaws.{GaveMore}
 use Rattle.backed_up_streams.proofs.SegmentLaws.{item_behind, next_chunks}
-use Rattle.backed_up_streams.proofs.KeptLaws.{IsKept, kept_there, all_kept-first, count_behind, end_newest, end_at_first}
+use Rattle.backed_up_streams.proofs.KeptLaws.{IsKept, kept_there, all_kept-first, end_newest, end_at_first}
 
 -- loads by the numbers of their commits
 abbrev pub loads_of : List (List Located) → Loads

@@ -1,5 +1,5 @@
 -- What a backup leaves is of the streams, or there is a collision.
-use Rattle.std.proofs.Common.{◌≡◌, ◌⊎◌, ℕ, true, List, [], ◌++◌, sym, subst, inl, inr}
+use Rattle.std.proofs.Common.{◌≡◌, ◌⊎◌, true, List, ◌++◌, sym, subst, inl, inr}
 use Rattle.std.specs.List.{All}
 use Rattle.ss_base.specs.declared.profile.Profile.{Profile}
 use Rattle.ss_base.specs.Profile.{numbers_of}
@@ -10,7 +10,6 @@ use Rattle.history.specs.declared.rules.Rules.{Rules}
 use Rattle.history.specs.Legal.{is_legal}
 use Rattle.stored_streams.specs.Streams.{Streams}
 use Rattle.stored_streams.specs.OfStreams.{HasContents, HasStored, IsOfStreams}
-use Rattle.stored_streams.specs.Loads.{StoresLoaded}
 use Rattle.stored_streams.specs.Reads.{Reads, IsGiven}
 use Rattle.stored_streams.specs.Collision.{Collide}
 use Rattle.stored_streams.proofs.LoadLaws.{stores_loaded}

@@ -1,44 +1,31 @@
 -- A depot that tells its reads.
-use Rattle.std.proofs.Common.{◌≡◌, ◌⊎◌, ℕ, zero, suc, ◌*◌, List, [], ◌∷◌, ◌++◌, length, Option, Some, None, Result, Ok, Err, refl, sym, ap, ◌∙◌, subst, inl, inr, arith}
+use Rattle.std.proofs.Common.{◌≡◌, ℕ, zero, suc, ◌*◌, List, [], ◌∷◌, ◌++◌, Option, Some, Result, Ok, Err, refl, sym, ap, ◌∙◌, subst, inl, inr, arith}
 use mathlib.Core.List.{map}
 use Rattle.std.specs.List.{Contains}
 use Rattle.std.proofs.lemmas.List.{map-append}
-use Rattle.ss_base.specs.declared.ids.ManifestId.{ManifestId}
 use Rattle.ss_base.specs.declared.object.Object.TheVariants.{Manifest as ManifestObject}
 use Rattle.ss_base.specs.declared.profile.Numbers.{Numbers}
 use Rattle.ss_base.specs.Profile.{numbers_of}
 use Rattle.ss_base.specs.ObjectName.{object_text}
 use Rattle.ss_base.proofs.MemberLaws.{In, in_append_left, in_append_right}
-use Rattle.segment_plan.specs.Plan.{Located}
-use Rattle.segment_reader.specs.SegmentsOf.{segments_of}
 use Rattle.manifest_codec.specs.declared.manifest.Manifest.{Manifest}
-use Rattle.manifest_codec.specs.Text.{manifest_text}
 use Rattle.outside.specs.Shelf.{Objects, Given, bytes_of, read_of}
 use Rattle.outside.specs.Views.{ShelfView}
 use Rattle.journal_entry.specs.declared.entry.Entry.{Entry}
-use Rattle.journal_entry.specs.declared.entry.Point.{Point}
-use Rattle.journal_entry.specs.declared.entry.Point.TheVariants.{Begin, Commit, Abort}
-use Rattle.store_core.specs.declared.fault.BeginFault.{BeginFault}
-use Rattle.store_core.specs.declared.fault.BeginFault.TheVariants as begin
-use Rattle.store_core.specs.View.{StateView, KeptView, past_of, made}
-use Rattle.store_core.specs.Answers.{BeginAnswer}
+use Rattle.journal_entry.specs.declared.entry.Point.TheVariants.{Begin}
+use Rattle.store_core.specs.View.{KeptView, past_of, made}
 use Rattle.depot.specs.declared.fault.BackupFault.{BackupFault}
 use Rattle.history_calls.specs.Tokens.{IdleView}
-use Rattle.history_calls.specs.SessionSteps.{HasNotBegun}
-use Rattle.session.specs.Backup.{HasNotStarted, HasStarted, BackupAnswer, input_view}
-use Rattle.session.specs.Backup.HasNotStarted.{unasked, absent, unbegun}
+use Rattle.session.specs.Backup.{HasNotStarted, HasStarted, BackupAnswer}
 use Rattle.session.specs.Backup.HasNotBackedUp.{not_started, given_up}
 use Rattle.stored_streams.specs.Streams.{Streams}
-use Rattle.history.specs.Sessions.{pending_champions}
 use Rattle.stored_streams.specs.Plans.{Planned, plans_of, end_of}
-use Rattle.stored_streams.specs.OfStreams.{next_of}
-use Rattle.stored_streams.specs.Loads.{Loads, IsLoadOf, AreLoadsOf, LoadedOf, loaded_plans, StoresLoaded}
 use Rattle.stored_streams.specs.Reads.{IsGiven}
 use Rattle.stored_streams.specs.Reads.Reads.{recorded}
 use Rattle.backed_up_streams.specs.OfInput.{IsOfInput}
 use Rattle.backed_up_streams.specs.Loaded.{HasLoaded, ReadsMore}
-use Rattle.backed_up_streams.proofs.AloneLaws.{alone, at_seen, steps}
-use Rattle.backed_up_streams.proofs.GaveLaws.{with_more, more_then, GaveMore, gave_none, segment_gave}
+use Rattle.backed_up_streams.proofs.AloneLaws.{alone}
+use Rattle.backed_up_streams.proofs.GaveLaws.{with_more, more_then, gave_none, segment_gave}
 use Rattle.backed_up_streams.proofs.UnstartedLaws.{stores_weaker, unstarted-loaded}
 use Rattle.backed_up_streams.proofs.LoadLaws.{text_loaded, IsTelling, LoadTold, HasEnded}
 use Rattle.backed_up_streams.proofs.BackupLaws.{finished-of_input, failed-of_input}

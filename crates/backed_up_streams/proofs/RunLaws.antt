@@ -1,5 +1,5 @@
 -- What a whole backup stores against what was loaded.
-use Rattle.std.proofs.Common.{◌≡◌, ℕ, List, [], ◌∷◌, ◌++◌, length, Some, None, refl, sym, ap, ◌∙◌, subst, append_assoc}
+use Rattle.std.proofs.Common.{◌≡◌, ℕ, List, [], ◌∷◌, ◌++◌, length, Some, refl, sym, ap, ◌∙◌, subst, append_assoc}
 use Rattle.std.proofs.lemmas.List.{append-nil}
 use Rattle.ss_base.specs.declared.profile.Numbers.{Numbers}
 use Rattle.ss_base.specs.Profile.{numbers_of}
@@ -10,17 +10,16 @@ use Rattle.outside.specs.Views.{ShelfView, SourceView}
 use Rattle.journal_entry.specs.declared.entry.Entry.{Entry}
 use Rattle.journal_entry.specs.declared.entry.Point.TheVariants.{Begin}
 use Rattle.history.specs.Sessions.{commits_of}
-use Rattle.store_core.specs.View.{StateView, past_of, made}
+use Rattle.store_core.specs.View.{past_of, made}
 use Rattle.depot.specs.declared.fault.BackupFault.{BackupFault}
-use Rattle.history_calls.specs.Tokens.{IdleView, OpenView}
+use Rattle.history_calls.specs.Tokens.{IdleView}
 use Rattle.history_calls.proofs.TurnLaws.{begun_open}
 use Rattle.session.specs.Split.{HasSplit, HasGivenAll}
-use Rattle.session.specs.Stores.{Reached, at_start, no_end}
+use Rattle.session.specs.Stores.{at_start, no_end}
 use Rattle.session.specs.Runs.{HasFinishedStream, HasFailedStream}
 use Rattle.session.specs.Runs.HasStoppedStream.{reading, storing}
 use Rattle.session.specs.Runs.HasFailedStream.{unread, stopped}
 use Rattle.session.specs.Backup.{input_view, HasStarted}
-use Rattle.container_file.specs.declared.container_end.ContainerEnd.{ContainerEnd}
 use Rattle.stored_streams.specs.Streams.{Streams}
 use Rattle.stored_streams.specs.Plans.{Planned, plans_of}
 use Rattle.backed_up_streams.proofs.AloneLaws.{alone}

@@ -1,5 +1,5 @@
 -- The segments of a session's stream, by their numbers.
-use Rattle.std.proofs.Common.{◌≡◌, ℕ, suc, ◌+◌, ◌<◌, List, [], ◌∷◌, ◌++◌, length, refl, sym, ap, ◌∙◌, subst, arith, length-append}
+use Rattle.std.proofs.Common.{◌≡◌, ℕ, ◌<◌, List, [], ◌∷◌, ◌++◌, length, refl, ap, ◌∙◌, arith, length-append}
 use mathlib.Core.List.{map}
 use Rattle.std.specs.List.{slice_index_or}
 use Rattle.ss_base.specs.declared.ids.ManifestId.{ManifestId}

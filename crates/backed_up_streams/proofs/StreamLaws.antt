@@ -1,5 +1,5 @@
 -- What a session stores against what was loaded, segment by segment.
-use Rattle.std.proofs.Common.{◌≡◌, ℕ, true, List, [], ◌∷◌, ◌++◌, length, Some, None, refl, sym, ap, ◌∙◌, subst, append_assoc}
+use Rattle.std.proofs.Common.{◌≡◌, ℕ, true, List, [], ◌∷◌, ◌++◌, length, sym, ap, ◌∙◌, subst, append_assoc}
 use Rattle.std.proofs.lemmas.List.{append-nil}
 use Rattle.ss_base.specs.declared.ids.ManifestId.{ManifestId}
 use Rattle.ss_base.specs.declared.name.Name.{Name}
@@ -13,22 +13,19 @@ use Rattle.segment_plan.specs.Plan.{puts_against, end_against}
 use Rattle.segment_plan.specs.Planned.{located}
 use Rattle.segment_reader.specs.SegmentsOf.{segments_of}
 use Rattle.outside.specs.Views.{ShelfView}
-use Rattle.outside.specs.Shelf.{Objects, CreateLeaves}
 use Rattle.journal_entry.specs.declared.entry.Entry.{Entry}
-use Rattle.journal_entry.specs.declared.entry.Point.TheVariants.{Choose, Finish, Abort}
+use Rattle.journal_entry.specs.declared.entry.Point.TheVariants.{Abort}
 use Rattle.history.specs.Legal.{is_legal}
 use Rattle.history.specs.Sessions.{commits_of, pending_champions, is_pending}
-use Rattle.store_core.specs.declared.values.Choice.{Choice}
 use Rattle.store_core.specs.declared.values.Stored.{Stored}
 use Rattle.store_core.specs.View.{StateView, KeptView, past_of, rules_of, all_kept, made}
 use Rattle.depot.specs.declared.fault.BackupFault.{BackupFault}
-use Rattle.depot.specs.Storing.{after_puts}
 use Rattle.depot.specs.Tokens.{WrittenView}
 use Rattle.history_calls.specs.Tokens.{IdleView, OpenView, ChosenView}
 use Rattle.history_calls.specs.SessionSteps.{HasChosen, HasNotChosen, HasCommitted, HasNotCommitted, HasFinished, HasAborted, HasAbortedChosen}
-use Rattle.segment_store.specs.Loads.{after_loads, AreLoaded, IsStopped}
+use Rattle.segment_store.specs.Loads.{after_loads, AreLoaded}
 use Rattle.segment_store.specs.Stored.{after_segment, IsStoredOf}
-use Rattle.segment_store.specs.Storing.{Progress, NotStored}
+use Rattle.segment_store.specs.Storing.{Progress}
 use Rattle.segment_store.specs.Storing.NotStored.{not_planned, put_failed, write_failed}
 use Rattle.session.specs.Stops.{NotStoredFor, HasGivenUpChosen, HasGivenUp}
 use Rattle.session.specs.Stops.NotStoredFor.{not_tried, not_loaded, not_stored}
@@ -37,9 +34,9 @@ use Rattle.session.specs.Stops.HasGivenUp.{unsampled, unchosen, behind}
 use Rattle.session.specs.Stores.{Reached, IsStoredFor, HasStored, HasStoredAll}
 use Rattle.stored_streams.specs.Streams.{Streams}
 use Rattle.stored_streams.specs.Plans.{Planned}
-use Rattle.backed_up_streams.proofs.AloneLaws.{alone, open_at, chosen_at, is_open_at, is_chosen_at, Steps, chose, committed, not_chosen, not_committed, finished, aborted, aborted_chosen, legal_chosen}
+use Rattle.backed_up_streams.proofs.AloneLaws.{alone, open_at, chosen_at, is_open_at, is_chosen_at, chose, committed, not_chosen, not_committed, finished, aborted, aborted_chosen, legal_chosen}
 use Rattle.backed_up_streams.proofs.KeptLaws.{all_kept_behind, champions_behind, waits_behind}
-use Rattle.backed_up_streams.proofs.GaveLaws.{GaveMore, gave_same, gave_then, loads_gave, stopped_loads-gave, stopped_puts-gave, failed-gave, puts_gave, segment_gave}
+use Rattle.backed_up_streams.proofs.GaveLaws.{GaveMore, gave_same, gave_then, loads_gave, stopped_loads-gave, stopped_puts-gave, puts_gave, segment_gave}
 use Rattle.backed_up_streams.proofs.LoadLaws.{commit_point, IsTelling, IsSoFar, HasEnded, chosen_so_far, committed_so_far, finished_so, given_up_so, given_up_pending}
 
 module _ (n : Numbers) (streams : Streams) (older : List Entry) (author session : ℕ) (Told : List (List ℕ) → List Entry → List Planned → ShelfView → Type 0) (Allowed : List Entry → Type 0) (telling : IsTelling n streams older author session Told Allowed) (standings champions : ℕ) where

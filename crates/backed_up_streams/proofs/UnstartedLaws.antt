@@ -1,5 +1,5 @@
 -- What stays where other bytes could be given, and a backup that began no session.
-use Rattle.std.proofs.Common.{◌≡◌, ◌⊎◌, ℕ, List, [], ◌∷◌, ◌++◌, Some, None, Err, refl, sym, ap, ◌∙◌, subst, inl, inr}
+use Rattle.std.proofs.Common.{◌≡◌, ℕ, List, [], ◌∷◌, ◌++◌, None, Err, ap, inl, inr}
 use Rattle.ss_base.specs.declared.ids.ManifestId.{ManifestId}
 use Rattle.ss_base.specs.declared.profile.Numbers.{Numbers}
 use Rattle.ss_base.specs.Profile.{numbers_of}
@@ -12,7 +12,7 @@ use Rattle.journal_entry.specs.declared.entry.Point.TheVariants.{Begin, Commit, 
 use Rattle.history.specs.Sessions.{pending_champions}
 use Rattle.store_core.specs.declared.fault.BeginFault.{BeginFault}
 use Rattle.store_core.specs.declared.fault.BeginFault.TheVariants as begin
-use Rattle.store_core.specs.View.{StateView, past_of, made}
+use Rattle.store_core.specs.View.{past_of, made}
 use Rattle.store_core.specs.Answers.{BeginAnswer}
 use Rattle.depot.specs.declared.fault.BackupFault.{BackupFault}
 use Rattle.history_calls.specs.Tokens.{IdleView}

@@ -1,5 +1,5 @@
 -- What a backup loaded for its commits, and stored against it (this project's own).
-use Rattle.std.specs.Prelude.{ℕ, ◌≡◌, List, [], ◌∷◌, ◌++◌, option_map}
+use Rattle.std.specs.Prelude.{◌≡◌, List, ◌++◌, option_map}
 use Rattle.ss_base.specs.declared.profile.Numbers.{Numbers}
 use Rattle.outside.specs.Shelf.{Given}
 use Rattle.outside.specs.Views.{ShelfView}
@@ -7,7 +7,6 @@ use Rattle.journal_entry.specs.declared.entry.Entry.{Entry}
 use Rattle.stored_streams.specs.Streams.{Streams}
 use Rattle.stored_streams.specs.Loads.{Loads, StoresLoaded}
 use Rattle.stored_streams.specs.Reads.{Reads, IsGiven}
-use Rattle.stored_streams.specs.Reads.Reads.{recorded}
 
 -- each newer entry stores what it says against manifests that were loaded, which these reads gave
 pub record HasLoaded (n : Numbers) (streams : Streams) (reads : List Reads) (older past : List Entry) : Type 0 where
