@@ -5,12 +5,12 @@
 mod backup;
 mod caller;
 mod input;
-mod restore;
+mod restores;
 
 pub use backup::{entries_of_a_backup, segments_of_a_backup};
 pub use caller::{Others, entries_beside_more, entries_of_a_call, entries_of_one_caller};
 pub use input::segments_of_an_input;
-pub use restore::entries_of_a_restore;
+pub use restores::entries_of_a_restore;
 
 #[cfg(test)]
 mod tests;

@@ -1,5 +1,5 @@
 -- Erases, one behind another.
-use Rattle.std.proofs.Common.{◌≡◌, List, [], ◌∷◌, ◌++◌, Option, Some, None, refl, sym, ap, ◌∙◌, subst}
+use Rattle.std.proofs.Common.{◌≡◌, List, [], ◌∷◌, ◌++◌, Option, Some, None, refl, ap, ◌∙◌, subst}
 use Rattle.ss_base.specs.declared.object.Object.{Object}
 use Rattle.outside.specs.Views.{ShelfView}
 use Rattle.outside.specs.declared.trouble.Trouble.{Trouble}

@@ -1,2 +1,3 @@
 pub mod EraseLaws
 pub mod RestoreLaws
+pub mod ReclaimLaws

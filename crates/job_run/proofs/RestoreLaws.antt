@@ -1,11 +1,10 @@
 -- A restore, as a job's calls make it.
-use Rattle.std.proofs.Common.{◌≡◌, ℕ, List, Result, subst, sym}
+use Rattle.std.proofs.Common.{◌≡◌, ℕ, List, Result, subst}
 use Rattle.outside.specs.Views.{OnlyReads}
 use Rattle.store_core.specs.View.{StateView}
 use Rattle.depot.specs.declared.fault.RestoreFault.{RestoreFault}
 use Rattle.restore.specs.Copies.{Shelves}
 use Rattle.restore.specs.Restores.{StateCalls, RestoreAnswer, RestoreCause, RestoreCounts, FilesAnswer}
-use Rattle.report.specs.declared.answer.JobAnswer.{JobAnswer}
 use Rattle.report.specs.declared.answer.JobAnswer.TheVariants as job
 use Rattle.job_run.specs.Jobs.{answer_of, RestoreDone}
 

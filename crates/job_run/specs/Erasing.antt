@@ -1,5 +1,5 @@
 -- What a reclaim does (this project's own).
-use Rattle.std.specs.Prelude.{◌≡◌, ℕ, List, [], ◌∷◌, Option, None, Some, Result, Ok, Err, Vec}
+use Rattle.std.specs.Prelude.{◌≡◌, ℕ, ◌<◌, length, List, [], ◌∷◌, Option, None, Some, Ok, Err, Vec}
 use Rattle.std.specs.declared.alloc.Global.{Global}
 use Rattle.ss_base.specs.declared.object.Object.{Object}
 use Rattle.ss_base.specs.ObjectName.{object_text}
@@ -50,3 +50,28 @@ pub data ReclaimDone (author : ℕ) (old new : StateView) (depot depot' : ShelfV
       → AreErased depot depot' removals.items met → ReclaimDone author old new depot depot' answer
   refused : (cause : PointFault) → answer ≡ of_point cause → ReclaimAnswer old new author (Err cause) → depot' ≡ depot
       → ReclaimDone author old new depot depot' answer
+
+-- ---- the command
+
+-- reclaims of 16 objects each, all of which were erased
+pub data HasReclaimed (author : ℕ) (old : StateView) (depot : ShelfView) : StateView → ShelfView → Type 0 where
+  none : HasReclaimed author old depot old depot
+  more : (between new : StateView) (shelf depot' : ShelfView) (removals : Vec Object Global) → HasReclaimed author old depot between shelf
+      → ReclaimAnswer between new author (Ok removals) → length removals.items ≡ 16 → AreErased shelf depot' removals.items None
+      → HasReclaimed author old depot new depot'
+
+-- the last one: of fewer than 16 objects, which were erased; or an erase met trouble; or it was refused
+pub data LastReclaim (author : ℕ) (old new : StateView) (depot depot' : ShelfView) (answer : JobAnswer) : Type 0 where
+  few : (removals : Vec Object Global) → answer ≡ job.Ok → ReclaimAnswer old new author (Ok removals) → length removals.items < 16
+      → AreErased depot depot' removals.items None → LastReclaim author old new depot depot' answer
+  troubled : (removals : Vec Object Global) (met : Trouble) → answer ≡ of_erases (Some met) → ReclaimAnswer old new author (Ok removals)
+      → AreErased depot depot' removals.items (Some met) → LastReclaim author old new depot depot' answer
+  unmade : (cause : PointFault) → answer ≡ of_point cause → ReclaimAnswer old new author (Err cause) → depot' ≡ depot
+      → LastReclaim author old new depot depot' answer
+
+-- the command: reclaims of 16 objects each, and then the last one
+pub record ReclaimsDone (author : ℕ) (old new : StateView) (depot depot' : ShelfView) (answer : JobAnswer) : Type 0 where
+  pub between : StateView
+  pub shelf : ShelfView
+  pub earlier : HasReclaimed author old depot between shelf
+  pub last : LastReclaim author between new shelf depot' answer

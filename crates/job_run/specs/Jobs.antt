@@ -1,6 +1,6 @@
 -- What a job does, by its answer (this project's own).
 use Rattle.std.specs.Prelude.{◌≡◌, ℕ, List, Result, Ok, Err}
-use Rattle.outside.specs.Views.{ShelfView, OnlyReads}
+use Rattle.outside.specs.Views.{OnlyReads}
 use Rattle.journal_entry.specs.declared.entry.Totals.{Totals}
 use Rattle.store_core.specs.declared.fault.NameFault.{NameFault}
 use Rattle.store_core.specs.declared.fault.PointFault.{PointFault}
@@ -15,7 +15,7 @@ use Rattle.job_script.specs.declared.job.JobKind.{JobKind}
 use Rattle.job_script.specs.declared.job.JobKind.TheVariants.{Backup, Restore, Delete, Reclaim, Stat}
 use Rattle.report.specs.declared.answer.JobAnswer.{JobAnswer}
 use Rattle.report.specs.declared.answer.JobAnswer.TheVariants as job
-use Rattle.job_run.specs.Erasing.{ReclaimDone}
+use Rattle.job_run.specs.Erasing.{ReclaimDone, ReclaimsDone}
 
 -- what a call's answer is as a job's
 abbrev pub answer_of : {T E : Type 0} → (E → JobAnswer) → Result T E → JobAnswer
@@ -57,3 +57,8 @@ JobDone standings champions author (Restore name output) old new before after an
 JobDone standings champions author (Delete name) old new before after answer = DeleteDone author name old new answer × (after ≡ before)
 JobDone standings champions author Reclaim old new before after answer = ReclaimDone author old new before.depot after.depot answer × (after.files ≡ before.files)
 JobDone standings champions author Stat old new before after answer = StatDone author old new answer × (after ≡ before)
+
+-- the same of a command, which reclaims until nothing is left to be erased
+abbrev pub CommandDone : ℕ → ℕ → ℕ → JobKind → StateView → StateView → Shelves → Shelves → JobAnswer → Type 0
+CommandDone standings champions author Reclaim old new before after answer = ReclaimsDone author old new before.depot after.depot answer × (after.files ≡ before.files)
+CommandDone standings champions author kind old new before after answer = JobDone standings champions author kind old new before after answer

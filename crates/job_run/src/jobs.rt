@@ -1,10 +1,10 @@
 // One job.
 ghost use Rattle.outside.specs.Views.{shelf_view};
-ghost use Rattle.job_run.specs.Jobs.{JobDone};
+ghost use Rattle.job_run.specs.Jobs.{JobDone, CommandDone};
 
 use crate::backups::run_backup;
 use crate::deletions::run_delete;
-use crate::reclaiming::run_reclaim;
+use crate::reclaiming::{run_reclaim, run_reclaims};
 use crate::restores::run_restore;
 use crate::totals::run_stat;
 use job_script::JobKind;
@@ -39,5 +39,25 @@ pub fn run_job<const L: usize, const M: usize, F: Shelf, K: Shelf>(
         JobKind::Delete { name } => run_delete(state, author, *name),
         JobKind::Reclaim => run_reclaim(alloc, state, author, depot),
         JobKind::Stat => run_stat(state, author),
+    }
+}
+
+/// The same for a command: it reclaims until a Reclaim gives over fewer than 16 objects, is refused, or has an erase
+/// that fails.
+pub fn run_command<const L: usize, const M: usize, F: Shelf, K: Shelf>(
+    alloc: Global,
+    state: &mut State<L, M>,
+    author: u32,
+    kind: &JobKind,
+    files: &mut F,
+    depot: &mut K,
+) -> JobAnswer
+    ensures { CommandDone L M author kind.now state.old state.new
+        (record { files = shelf_view ⟦<F as Shelf>⟧ files.old; depot = shelf_view ⟦<K as Shelf>⟧ depot.old })
+        (record { files = shelf_view ⟦<F as Shelf>⟧ files.new; depot = shelf_view ⟦<K as Shelf>⟧ depot.new }) result }
+{
+    match kind {
+        JobKind::Reclaim => run_reclaims(alloc, state, author, depot),
+        _ => run_job(alloc, state, author, kind, files, depot),
     }
 }

@@ -10,4 +10,4 @@ mod reclaiming;
 mod restores;
 mod totals;
 
-pub use jobs::run_job;
+pub use jobs::{run_command, run_job};

@@ -14,7 +14,7 @@ use Rattle.restore.specs.Copies.{Shelves, StreamCopy}
 use Rattle.restore.specs.Restores.{Calls, CallsOf, StateCalls, IsAbsent, RestoreAnswer}
 use Rattle.restore.specs.Restores.Calls.{no_call, refused, looked_and_done}
 use Rattle.restore.specs.Restores.RestoreAnswer.{not_asked, exists, not_looked, copied}
-use Rattle.restore.proofs.ReadingLaws.{own_turn}
+use Rattle.restore.proofs.AloneLaws.{own_turn}
 
 -- ---- what a restore meets
 

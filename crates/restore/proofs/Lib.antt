@@ -1,7 +1,7 @@
 pub mod ReadLaws
 pub mod CopyLaws
 pub mod OutputLaws
-pub mod ReadingLaws
+pub mod AloneLaws
 pub mod HeldLaws
 pub mod AnswerLaws
 pub mod ShowLaws

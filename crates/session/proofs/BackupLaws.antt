@@ -1,7 +1,7 @@
 -- A backup, by what its input's shelf told before.
-use Rattle.std.proofs.Common.{◌≡◌, ℕ, Bool, false, List, Option, sym, ap, subst}
-use Rattle.outside.specs.Shelf.{Objects, left_of}
-use Rattle.outside.specs.Views.{ShelfView, SourceView}
+use Rattle.std.proofs.Common.{◌≡◌, ℕ, Bool, false, List, subst}
+use Rattle.outside.specs.Shelf.{left_of}
+use Rattle.outside.specs.Views.{ShelfView}
 use Rattle.session.specs.Backup.{input_view, IsThere}
 
 -- the input is as before where the files are

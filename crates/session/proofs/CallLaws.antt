@@ -1,28 +1,25 @@
 -- What a session may call, and how it stands then.
-use Rattle.std.proofs.Common.{◌≡◌, ◌≢◌, ℕ, suc, ◌+◌, ◌*◌, ◌<◌, ◌≤◌, ◌⊎◌, Bool, true, false, ◌&&◌, ◌||◌, eqb, is_some, List, Option, Some, None, Err, Result, refl, sym, ap, ◌∙◌, subst, inl, inr, arith}
+use Rattle.std.proofs.Common.{◌≡◌, ℕ, suc, ◌+◌, ◌<◌, ◌≤◌, ◌⊎◌, true, is_some, List, Some, None, refl, sym, ap, ◌∙◌, subst, inl, inr, arith}
 use Rattle.std.specs.List.{Contains}
 use Rattle.std.proofs.lemmas.Bool.{eq-eqb, and_from, or_left, or_right}
 use Rattle.ss_base.specs.declared.ids.ContainerId.{ContainerId}
 use Rattle.ss_base.specs.declared.ids.ManifestId.{ManifestId}
 use Rattle.ss_base.specs.declared.name.Name.{Name}
 use Rattle.ss_base.specs.Profile.{numbers_of}
-use Rattle.container_file.specs.declared.container_end.ContainerEnd.{ContainerEnd}
-use Rattle.segment_plan.specs.Located.{MayUse}
-use Rattle.segment_plan.specs.Planned.{located}
 use Rattle.journal_entry.specs.declared.entry.Entry.{Entry}
 use Rattle.history.specs.OwnEnd.{own_end}
 use Rattle.history.specs.Sessions.{pending, is_pending, pending_champions, commits_of}
 use Rattle.history.specs.Legal.{are_hooks, are_uses, are_texts}
-use Rattle.store_core.specs.declared.values.Choice.{Choice}
 use Rattle.store_core.specs.declared.values.Stored.{Stored}
 use Rattle.store_core.specs.View.{past_of, all_kept}
 use Rattle.outside.specs.Views.{ShelfView}
 use Rattle.depot.specs.Tokens.{WrittenView}
 use Rattle.store_core.specs.declared.fault.PointFault.{PointFault}
-use Rattle.history_calls.specs.Tokens.{IdleView, OpenView, ChosenView}
+use Rattle.history_calls.specs.Tokens.{OpenView, ChosenView}
 use Rattle.history_calls.specs.OpenAt.{IsOpenAt, IsPendingSo}
-use Rattle.history_calls.specs.SessionSteps.{HasBegun, CanChoose, CanCommit, CanFinish, CanAbort, CanAbortChosen, HasChosen, HasNotChosen, HasCommitted, HasNotCommitted}
-use Rattle.history_calls.proofs.TurnLaws.{begun_open, legal_seen, unchosen_open, uncommitted_open, chosen_open, committed_open}
+use Rattle.history_calls.specs.SessionSteps.{CanChoose, CanCommit, CanFinish, CanAbort, CanAbortChosen, HasChosen, HasNotChosen, HasCommitted, HasNotCommitted}
+use Rattle.history_calls.proofs.AskLaws.{can_choose as idle_choose, can_finish as idle_finish}
+use Rattle.history_calls.proofs.TurnLaws.{legal_seen, unchosen_open, uncommitted_open, chosen_open, committed_open}
 use Rattle.history_calls.proofs.UseLaws.{use_of_any, listed_below}
 use Rattle.segment_store.specs.Stored.{GoesOn}
 use Rattle.segment_store.proofs.UseLaws.{of_champion, uses_allowed}
@@ -32,10 +29,6 @@ use Rattle.session.specs.Ready.{no_extent, IsReady, IsWaiting, CanCommitFor}
 is_waiting : (s : ℕ) (ids : List ManifestId) (past : List Entry) → pending s past ≡ Some ids → is_pending s past ≡ true
 unfolding is_pending
 is_waiting s ids past is = ap (λ o. is_some o) is
-
-is_idle : (s : ℕ) (past : List Entry) → pending s past ≡ None → is_pending s past ≡ false
-unfolding is_pending
-is_idle s past is = ap (λ o. is_some o) is
 
 -- as many texts as commits
 texts_same : (s k texts : ℕ) (past : List Entry) → commits_of s past ≡ k → texts ≡ k → are_texts s texts past ≡ true
@@ -53,18 +46,12 @@ texts_more s k texts past commits waiting is = or_right _ _ (and_from _ _ waitin
 pub begun_ready : (caller : OpenView) → IsOpenAt caller.author caller.session None 0 0 (past_of caller.seen) → IsReady caller (no_extent caller.session)
 begun_ready caller begun = record { session = refl; at = begun }
 
-pub begun_at_start : (others : List Entry → Type 0) (standings champions : ℕ) (before : IdleView) (name : List ℕ) (caller : OpenView) → HasBegun others standings champions before name caller
-    → IsOpenAt caller.author caller.session None 0 0 (past_of caller.seen)
-begun_at_start others standings champions before name caller has =
-    subst (λ (a : ℕ). IsOpenAt a caller.session None 0 0 (past_of caller.seen)) (sym has.author)
-    (begun_open others standings champions before.author caller.session name before.seen caller.seen has.at_turn)
-
 module _ (caller : OpenView) (extent : Extent) (ready : IsReady caller extent) where
   pub can_choose : (hooks : List Name) → are_hooks (numbers_of caller.seen.profile).bits hooks ≡ true → CanChoose caller hooks
-  can_choose hooks valid = record { author = ready.at.open_to; idle = is_idle caller.session (past_of caller.seen) ready.at.choice_is; valid = valid }
+  can_choose hooks valid = idle_choose caller extent.texts extent.end.containers hooks ready.at valid
 
   pub can_finish : CanFinish caller extent.end.containers
-  can_finish = record { author = ready.at.open_to; idle = is_idle caller.session (past_of caller.seen) ready.at.choice_is; above = ready.at.used }
+  can_finish = idle_finish caller extent.texts extent.end.containers ready.at
 
   pub can_abort : CanAbort caller extent.end.containers extent.texts
   can_abort = record {

@@ -2,14 +2,10 @@
 use Rattle.std.proofs.Common.{◌≡◌, ℕ, Bool, true, false, List, [], ◌∷◌, refl, sym, ap, ◌∙◌, subst, inl, inr, if◌then◌else◌, Err}
 use Rattle.manifest_codec.specs.declared.manifest.Manifest.{Manifest}
 use Rattle.ss_base.specs.declared.ids.ManifestId.{ManifestId}
-use Rattle.ss_base.specs.declared.object.Object.TheVariants.{Manifest as ManifestObject}
-use Rattle.ss_base.specs.ObjectName.{object_text}
-use Rattle.container_file.specs.declared.container_end.ContainerEnd.{ContainerEnd}
 use Rattle.container_file.specs.Layout.{Written as PutBytes}
 use Rattle.segment_plan.specs.Plan.{Located, puts_against}
 use Rattle.store_core.specs.View.{KeptView}
 use Rattle.store_core.specs.declared.values.Stored.{Stored}
-use Rattle.outside.specs.Faults.{Rose}
 use Rattle.outside.specs.Views.{ShelfView}
 use Rattle.outside.specs.declared.trouble.Trouble.{Trouble}
 use Rattle.outside.specs.declared.trouble.Trouble.TheVariants.{Fault, Memory}
@@ -20,7 +16,6 @@ use Rattle.depot.specs.Loading.{LoadAnswer}
 use Rattle.depot.specs.Storing.{put_name, after_put, after_puts}
 use Rattle.depot.specs.Tokens.{WrittenView}
 use Rattle.segment_store.specs.Loads.{after_load, after_loads, IsStopped}
-use Rattle.segment_store.specs.Stored.{text_against}
 use Rattle.segment_store.specs.Storing.{Progress, IsStored, NotStored}
 use Rattle.segment_store.specs.Storing.NotStored.{not_planned, put_failed, write_failed}
 use Rattle.session.specs.Causes.{of_load, of_depot, DepotCount}

@@ -1,5 +1,5 @@
 -- Sampled hooks are those of a choice.
-use Rattle.std.proofs.Common.{◌≡◌, ◌≢◌, ℕ, suc, ◌<◌, ◌≤◌, Bool, true, false, not, ◌&&◌, List, [], ◌∷◌, length, slice_index_or, refl, sym, ap, ◌∙◌, arith, AllPairs}
+use Rattle.std.proofs.Common.{◌≡◌, ◌≢◌, ℕ, suc, ◌<◌, ◌≤◌, Bool, true, false, not, List, [], ◌∷◌, length, slice_index_or, refl, ap, arith, AllPairs}
 use Rattle.std.specs.List.{list_any, list_all, AllPass}
 use Rattle.std.proofs.lemmas.Bool.{and_from, or_from, le-leb}
 use Rattle.std.proofs.lemmas.List.Sums.{list_all-from_AllPass}

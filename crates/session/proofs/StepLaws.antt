@@ -4,7 +4,7 @@ use Rattle.std.specs.Prelude.{MatchResult}
 use Rattle.journal_entry.specs.declared.entry.Entry.{Entry}
 use Rattle.outside.specs.Views.{ShelfView}
 use Rattle.depot.specs.declared.fault.BackupFault.{BackupFault}
-use Rattle.history_calls.specs.Tokens.{IdleView, OpenView, ChosenView}
+use Rattle.history_calls.specs.Tokens.{IdleView, ChosenView}
 use Rattle.history_calls.specs.SessionSteps.{HasChosen}
 use Rattle.session.specs.Stores.{Reached, hooks_for, room_for, HasStoredChosen, HasStored, HasStoredAll}
 use Rattle.session.specs.Stops.{HasGivenUpChosen, HasGivenUp}

@@ -1,5 +1,5 @@
 -- A segment that is stored for its choice.
-use Rattle.std.proofs.Common.{◌≡◌, ℕ, ◌+◌, ◌*◌, ◌≤◌, ◌⊎◌, List, [], ◌∷◌, length, refl, sym, ap, ◌∙◌, subst, suc, inl, inr}
+use Rattle.std.proofs.Common.{◌≡◌, ℕ, ◌+◌, ◌⊎◌, List, [], ◌∷◌, length, refl, ap, subst, suc, inl, inr}
 use Rattle.ss_base.specs.declared.ids.ManifestId.{ManifestId}
 use Rattle.manifest_codec.specs.declared.manifest.Manifest.{Manifest}
 use Rattle.segmenter.specs.declared.segment.Segment.{Segment}
@@ -12,16 +12,15 @@ use Rattle.store_core.specs.declared.values.Choice.{Choice}
 use Rattle.store_core.specs.declared.values.Stored.{Stored}
 use Rattle.outside.specs.Views.{ShelfView}
 use Rattle.outside.specs.declared.trouble.Trouble.{Trouble}
-use Rattle.depot.specs.declared.fault.LoadFault.{LoadFault}
 use Rattle.depot.specs.declared.fault.BackupFault.{BackupFault}
 use Rattle.depot.specs.Tokens.{WrittenView}
-use Rattle.segment_store.specs.Loads.{after_load, after_loads, AreLoaded, IsStopped}
+use Rattle.segment_store.specs.Loads.{after_load, after_loads, AreLoaded}
 use Rattle.segment_store.specs.Storing.{Progress, IsStored, NotStored}
 use Rattle.segment_store.specs.Storing.NotStored.{not_planned, put_failed, write_failed}
-use Rattle.session.specs.Causes.{of_load, of_depot}
-use Rattle.session.specs.Stores.{loaded_for, IsStoredFor}
+use Rattle.session.specs.Causes.{of_depot}
+use Rattle.session.specs.Stores.{IsStoredFor}
 use Rattle.session.specs.Stops.{NotStoredFor}
-use Rattle.session.specs.Stops.NotStoredFor.{not_loaded, not_stored}
+use Rattle.session.specs.Stops.NotStoredFor.{not_stored}
 
 -- there is one manifest for each champion
 pub loaded_len : (shelf : ShelfView) (kepts : List KeptView) (manifests : List Manifest) → AreLoaded shelf kepts manifests → length manifests ≡ length kepts

@@ -1,5 +1,5 @@
 -- A stream on its way through a session.
-use Rattle.std.proofs.Common.{◌≡◌, ℕ, ◌+◌, ◌-◌, ◌≤◌, ◌^◌, Bool, true, false, List, [], ◌∷◌, ◌++◌, length, Option, Some, None, refl, sym, ap, ◌∙◌, subst, arith, lit≤, append_assoc, length-append}
+use Rattle.std.proofs.Common.{◌≡◌, ℕ, ◌+◌, ◌-◌, Bool, true, false, List, [], ◌∷◌, ◌++◌, length, refl, sym, ap, ◌∙◌, subst, arith, lit≤, append_assoc, length-append}
 use Rattle.std.proofs.KnownBytes.{Consumes-nil, Consumes-trans}
 use Rattle.std.proofs.lemmas.Bool.{false≢true}
 use Rattle.std.proofs.lemmas.List.{append-nil}
@@ -13,7 +13,7 @@ use Rattle.segment_reader.specs.SegmentsOf.{segments_of}
 use Rattle.segment_reader.specs.WorkState.{WorkState}
 use Rattle.segment_reader.proofs.WholeLaws.{segments_of-nil}
 use Rattle.session.specs.Split.{most_bytes, HasSplit, HasGivenAll}
-use Rattle.session.specs.Stores.{Reached, HasStored, HasStoredAll}
+use Rattle.session.specs.Stores.{Reached, HasStored}
 use Rattle.segment_reader.specs.declared.fault.NextFault.{NextFault}
 use Rattle.depot.specs.declared.fault.BackupFault.{BackupFault}
 use Rattle.history_calls.specs.Tokens.{IdleView}

@@ -12,7 +12,7 @@ use Rattle.segment_reader.specs.declared.fault.NextFault.TheVariants as next
 use Rattle.depot.specs.declared.fault.LoadFault.{LoadFault}
 use Rattle.depot.specs.declared.fault.LoadFault.TheVariants as load
 use Rattle.depot.specs.declared.fault.BackupFault.{BackupFault}
-use Rattle.depot.specs.declared.fault.BackupFault.TheVariants.{Taken, NoInput, InputFault, TooLong, DepotFault, Damaged, Unlike, Full, Memory}
+use Rattle.depot.specs.declared.fault.BackupFault.TheVariants.{Taken, InputFault, TooLong, DepotFault, Damaged, Unlike, Full, Memory}
 
 -- trouble with the input's shelf, and with the depot's
 abbrev pub of_input : Trouble → BackupFault

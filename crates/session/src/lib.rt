@@ -10,3 +10,14 @@ mod stream;
 
 pub use alone::backup_solo;
 pub use caller::backup;
+pub use segment_reader::{NextFault, Work, next_segment};
+pub use segment_store::{load_champions, store_segment};
+
+#[cfg(test)]
+mod test_faults;
+#[cfg(test)]
+mod test_lines;
+#[cfg(test)]
+mod test_state;
+#[cfg(test)]
+mod tests;

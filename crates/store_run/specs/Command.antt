@@ -33,12 +33,11 @@ words_of (Job (Delete name)) = codes "delete" ∷ name ∷ []
 words_of (Job Reclaim) = codes "reclaim" ∷ []
 words_of (Job Stat) = codes "stat" ∷ []
 
--- its names of streams and files are within their limits; no command reclaims yet
+-- its names of streams and files are within their limits
 abbrev pub IsCommand : Command → Type 0
 IsCommand (Job (Backup input name)) = IsFileName input × IsStreamName name
 IsCommand (Job (Restore name output)) = IsStreamName name × IsFileName output
 IsCommand (Job (Delete name)) = IsStreamName name
-IsCommand (Job Reclaim) = ⊥
 IsCommand _ = Unit {0}
 
 -- whether a word begins with a dash

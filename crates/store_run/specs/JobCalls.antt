@@ -1,5 +1,5 @@
--- The calls of a job: the points of its entries, by its answer (this project's own).
-use Rattle.std.specs.Prelude.{◌≡◌, ℕ, ◌≤◌, ◌⊎◌, List, [], ◌∷◌, length, None, Some, Result}
+-- The calls of a command that is a job: the points of its entries, by its answer (this project's own).
+use Rattle.std.specs.Prelude.{◌≡◌, ℕ, ◌≤◌, ◌⊎◌, List, [], ◌∷◌, ◌++◌, length, None, Some, Result}
 use Rattle.ss_base.specs.declared.object.Object.{Object}
 use Rattle.journal_entry.specs.declared.entry.Totals.{Totals}
 use Rattle.journal_entry.specs.declared.entry.Point.{Point}
@@ -30,15 +30,27 @@ StatCalls job.Ok points = (given : Totals) × (points ≡ point.Stat given ∷ [
 StatCalls (job.Stat fault) points = points ≡ []
 StatCalls _ points = ⊥
 
--- one Reclaim, of at most 16 objects; nothing where it was refused
-abbrev pub OneReclaim : List Point → Type 0
-OneReclaim points = (objects : List Object) × (points ≡ point.Reclaim objects ∷ []) × (length objects ≤ 16)
+-- Reclaims of 16 objects each
+abbrev pub FullReclaims : List Point → Type 0
+FullReclaims [] = Unit {0}
+FullReclaims (point.Reclaim objects ∷ points) = (length objects ≡ 16) × FullReclaims points
+FullReclaims (_ ∷ points) = ⊥
 
+-- and one more behind them, of at most so many
+pub record EndsReclaims (most : ℕ) (points : List Point) : Type 0 where
+  pub earlier : List Point
+  pub full : FullReclaims earlier
+  pub objects : List Object
+  pub few : length objects ≤ most
+  pub points_are : points ≡ earlier ++ point.Reclaim objects ∷ []
+
+-- Reclaims of 16 objects each, and one of fewer at the end; the last may have 16 where an erase met trouble, and is
+-- missing where it was refused
 abbrev pub ReclaimCalls : JobAnswer → List Point → Type 0
-ReclaimCalls job.Ok points = OneReclaim points
-ReclaimCalls (job.Reclaim reclaim.DepotFault) points = OneReclaim points
-ReclaimCalls (job.Reclaim reclaim.Full) points = points ≡ []
-ReclaimCalls (job.Reclaim reclaim.Memory) points = (points ≡ []) ⊎ OneReclaim points
+ReclaimCalls job.Ok points = EndsReclaims 15 points
+ReclaimCalls (job.Reclaim reclaim.DepotFault) points = EndsReclaims 16 points
+ReclaimCalls (job.Reclaim reclaim.Full) points = FullReclaims points
+ReclaimCalls (job.Reclaim reclaim.Memory) points = FullReclaims points ⊎ EndsReclaims 16 points
 ReclaimCalls _ points = ⊥
 
 -- those of a backup and a restore are told by what the call answered

@@ -20,7 +20,7 @@ use Rattle.report.specs.declared.answer.JobAnswer.{JobAnswer}
 use Rattle.report.specs.JobLine.{job_line}
 use Rattle.report.specs.Status.{answer_status}
 use Rattle.restore.specs.Copies.{Shelves}
-use Rattle.job_run.specs.Jobs.{JobDone}
+use Rattle.job_run.specs.Jobs.{CommandDone}
 use Rattle.store_run.specs.declared.stop.Stop.{Stop}
 use Rattle.store_run.specs.declared.stop.Stop.TheVariants.{DepotFault, Memory, Callers}
 use Rattle.store_run.specs.EntryLines.{entry_lines}
@@ -105,7 +105,7 @@ pub record HasDoneJob (kind : JobKind) (before after : Shelves) (sink sink' : Si
   pub new : StateView
   pub done : Shelves
   pub answer : JobAnswer
-  pub job : JobDone 8 8 author kind store new opened done answer
+  pub job : CommandDone 8 8 author kind store new opened done answer
   pub points : List Point
   pub calls : JobCalls kind answer points
   pub added : new ≡ record store { entries = store.entries ++ map (made author) points }

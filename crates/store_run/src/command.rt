@@ -17,7 +17,7 @@ pub enum Command {
     Init(Profile),
     /// `journal`: one line for each entry of a store's history.
     Journal,
-    /// `backup FILE NAME`, `restore NAME FILE`, `delete NAME`, `stat`: does that job.
+    /// `backup FILE NAME`, `restore NAME FILE`, `delete NAME`, `reclaim`, `stat`: does that job.
     Job(JobKind),
 }
 
@@ -34,6 +34,7 @@ pub fn command_of(words: &[String]) -> Option<Command>
     match words {
         [verb] => match verb.as_str() {
             "journal" => Some(Command::Journal),
+            "reclaim" => Some(Command::Job(JobKind::Reclaim)),
             "stat" => Some(Command::Job(JobKind::Stat)),
             _ => None,
         },

@@ -8,7 +8,7 @@ use crate::fault_lines::refuse;
 use crate::opening::open;
 use crate::reporting::{print_report, status_of_run};
 use crate::stop::Stop;
-use job_run::run_job;
+use job_run::run_command;
 use job_script::{Job, JobKind};
 use journal_file::append;
 use outside::{Shelf, Sink};
@@ -39,7 +39,7 @@ pub(crate) fn run_on_store<O: Sink, F: Shelf, K: Shelf>(
         return refuse(alloc, out, &[], Stop::Callers);
     };
     let first = state.entries().len();
-    let answer = run_job(alloc, &mut state, author, &kind, files, depot);
+    let answer = run_command(alloc, &mut state, author, &kind, files, depot);
     let job = Job { lane: 1, kind };
     keep_and_report(alloc, &state, first, &job, &answer, depot, out)
 }

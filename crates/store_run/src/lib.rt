@@ -22,6 +22,14 @@ pub use laws::{listed_or_refused, whole_fault_lines};
 pub use run::{Lane, run_solo};
 
 #[cfg(test)]
+mod damage_tests;
+#[cfg(test)]
+mod job_fault_tests;
+#[cfg(test)]
+mod job_tests;
+#[cfg(test)]
 mod journal_tests;
 #[cfg(test)]
 mod tests;
+#[cfg(test)]
+mod transcripts;

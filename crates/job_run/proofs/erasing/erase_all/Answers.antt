@@ -1,4 +1,4 @@
-use Rattle.std.proofs.Common.{◌≡◌, ◌∙◌, [], ◌∷◌, ◌++◌, Some, None, subst, sym}
+use Rattle.std.proofs.Common.{◌∙◌, [], ◌∷◌, ◌++◌, Some, None, subst, sym}
 use Rattle.std.specs.Prelude.{Option}
 use Rattle.outside.specs.declared.trouble.Trouble.{Trouble}
 use Rattle.depot.specs.Seen.{seen}

@@ -1,4 +1,4 @@
-use Rattle.std.proofs.Common.{◌≡◌, refl, rules}
+use Rattle.std.proofs.Common.{rules}
 use Rattle.std.specs.Prelude.{Ok, Err}
 use Rattle.restore.specs.Copies.{shelves}
 use Rattle.job_run.proofs.RestoreLaws.{restored}

@@ -3,7 +3,7 @@ use Rattle.std.specs.Prelude.{Err}
 use Rattle.outside.specs.Views.{shelf_view}
 use Rattle.restore.specs.Copies.{shelves}
 use Rattle.restore.specs.Restores.RestoreAnswer.{not_asked, not_looked, copied}
-use Rattle.restore.proofs.ReadingLaws.{can_end}
+use Rattle.history_calls.proofs.ReadLaws.{can_end}
 use Rattle.restore.proofs.AnswerLaws.{is_absent, same_files, copied_from}
 use Rattle.restore.proofs.stream.restore_by.Goals as goal
 

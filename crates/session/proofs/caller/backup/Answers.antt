@@ -1,14 +1,11 @@
-use Rattle.std.proofs.Common.{◌≡◌, true, refl, subst}
+use Rattle.std.proofs.Common.{true, refl, subst}
 use Rattle.outside.specs.Views.{SourceView, shelf_view}
 use Rattle.depot.specs.Seen.{seen}
-use Rattle.history_calls.proofs.TurnLaws.{begun_open}
-use Rattle.history_calls.specs.OpenAt.{IsOpenAt}
-use Rattle.store_core.specs.View.{past_of}
 use Rattle.session.specs.Runs.{HasStreamed, HasNotStreamed}
 use Rattle.session.specs.Backup.HasNotStarted.{unasked, unbegun}
 use Rattle.session.specs.Backup.HasNotBackedUp.{not_started, given_up}
 use Rattle.session.proofs.BackupLaws.{input_same, there_is}
-use Rattle.session.proofs.CallLaws.{begun_at_start}
+use Rattle.history_calls.proofs.AskLaws.{begun_idle}
 use Rattle.session.proofs.caller.backup.Goals as goal
 
 pub returns-in-Err-clause-answer : goal.returns-in-Err-clause-answer
@@ -24,7 +21,7 @@ pub store_input-requires : goal.store_input-requires
 store_input-requires g c =
     let calls = g.C.SessionCalls in
     record {
-      begun = begun_at_start calls.others calls.standings calls.champions (calls.of_idle c.args.calls.now c.args.idle) c.args.name (calls.of_open c.begin.new.self c.in-Ok.caller) c.in-Ok.ensures;
+      begun = begun_idle calls.others calls.standings calls.champions (calls.of_idle c.args.calls.now c.args.idle) c.args.name (calls.of_open c.begin.new.self c.in-Ok.caller) c.in-Ok.ensures;
     }
 
 pub returns-in-Ok-store_input-clause-answer : goal.returns-in-Ok-store_input-clause-answer

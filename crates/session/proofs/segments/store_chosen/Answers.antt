@@ -1,4 +1,4 @@
-use Rattle.std.proofs.Common.{◌≡◌, ℕ, List, refl, inl, inr, subst}
+use Rattle.std.proofs.Common.{refl, subst}
 use Rattle.store_core.specs.declared.values.Choice.{Choice}
 use Rattle.depot.specs.Seen.{seen}
 use Rattle.session.specs.Ready.{progress_of, CanCommitFor}

@@ -1,6 +1,5 @@
-use Rattle.std.proofs.Common.{◌≡◌, ◌≤◌, ℕ, List, length, refl, sym, ap, ◌∙◌, subst, arith}
-use Rattle.std.specs.Prelude.{Ok, Err}
-use Rattle.ss_base.specs.declared.limits.TheConstants.{MAX_CHAMPIONS}
+use Rattle.std.proofs.Common.{◌≡◌, ℕ, List, length, refl, sym, ap, ◌∙◌, subst, arith}
+use Rattle.std.specs.Prelude.{Ok}
 use Rattle.depot.specs.Seen.{seen}
 use Rattle.depot.specs.declared.fault.BackupFault.{BackupFault}
 use Rattle.store_core.specs.View.{KeptView}

@@ -1,4 +1,4 @@
-use Rattle.std.proofs.Common.{◌≡◌, refl, sym, ap, ◌∙◌}
+use Rattle.std.proofs.Common.{refl, ap, ◌∙◌}
 use Rattle.outside.specs.Views.{source_view}
 use Rattle.depot.specs.Seen.{seen}
 use Rattle.segment_reader.specs.Answer.{GaveSegment}

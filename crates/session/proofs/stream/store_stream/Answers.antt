@@ -1,11 +1,11 @@
-use Rattle.std.proofs.Common.{◌≡◌, refl, sym, ap, ◌∙◌, subst}
+use Rattle.std.proofs.Common.{refl, sym, ap, ◌∙◌, subst}
 use Rattle.outside.specs.Views.{source_view}
 use Rattle.depot.specs.Seen.{seen}
 use Rattle.ss_base.specs.declared.profile.Profile.{Profile}
 use Rattle.segment_reader.specs.WorkState.{unused}
 use Rattle.session.specs.Ready.{no_extent, reached, IsReady}
 use Rattle.session.specs.Runs.{numbers_for, HasStoredStream, HasStoppedStream}
-use Rattle.session.specs.Runs.HasFailedStream.{unread, stopped}
+use Rattle.session.specs.Runs.HasFailedStream.{stopped}
 use Rattle.session.specs.Split.{most_bytes}
 use Rattle.session.specs.Stores.{Reached}
 use Rattle.session.specs.declared.storing.Extent.{Extent}

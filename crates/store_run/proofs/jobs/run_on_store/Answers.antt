@@ -15,22 +15,22 @@ returns-in_default g c = no_author c.in-Ok.state c.in-Ok.ensures (sym c.next_aut
 
 pub keep_and_report-requires-clause-first : goal.keep_and_report-requires-clause-first
 keep_and_report-requires-clause-first g c =
-    let calls = job-calls c.in-Some.author c.in-Ok.state c.run_job-answer.new.state c.args.kind _ _ c.run_job-answer.result c.run_job-answer.ensures in
+    let calls = job-calls c.in-Some.author c.in-Ok.state c.run_command-answer.new.state c.args.kind _ _ c.run_command-answer.result c.run_command-answer.ensures in
     let all = ap (λ (state : StateView). length state.entries) calls.added in
     let sum = length-append c.in-Ok.state.entries (map (made c.in-Some.author) calls.points) in
     omega (arith, all, sum, ap length c.entries-first.ensures.entries)
 
 pub keep_and_report-requires-clause-limits : goal.keep_and_report-requires-clause-limits
 keep_and_report-requires-clause-limits g c =
-    let calls = job-calls c.in-Some.author c.in-Ok.state c.run_job-answer.new.state c.args.kind _ _ c.run_job-answer.result c.run_job-answer.ensures in
+    let calls = job-calls c.in-Some.author c.in-Ok.state c.run_command-answer.new.state c.args.kind _ _ c.run_command-answer.result c.run_command-answer.ensures in
     ap (λ (state : StateView). state.limits) calls.added ∙ opened_limits _ _ c.in-Ok.state c.in-Ok.ensures
 
 pub returns : goal.returns
 returns g c =
     let store = c.in-Ok.state in
     let author = c.in-Some.author in
-    let new = c.run_job-answer.new.state in
-    let calls = job-calls author store new c.args.kind _ _ c.run_job-answer.result c.run_job-answer.ensures in
+    let new = c.run_command-answer.new.state in
+    let calls = job-calls author store new c.args.kind _ _ c.run_command-answer.result c.run_command-answer.ensures in
     let first : length c.entries-first.result.now ≡ length store.entries = ap length c.entries-first.ensures.entries in
     let behind : drop (length store.entries) new.entries ≡ map (made author) calls.points =
     ap (λ (state : StateView). drop (length store.entries) state.entries) calls.added ∙ drop-append_seam store.entries (map (made author) calls.points) in
@@ -43,9 +43,9 @@ returns g c =
       author = author;
       author_is = sym c.next_author.ensures ∙ c.in-Some.is;
       new = new;
-      done = record { files = shelf_view g.F.Shelf c.run_job-answer.new.files; depot = shelf_view g.K.Shelf c.run_job-answer.new.depot };
-      answer = c.run_job-answer.result;
-      job = c.run_job-answer.ensures;
+      done = record { files = shelf_view g.F.Shelf c.run_command-answer.new.files; depot = shelf_view g.K.Shelf c.run_command-answer.new.depot };
+      answer = c.run_command-answer.result;
+      job = c.run_command-answer.ensures;
       points = calls.points;
       calls = calls.calls;
       added = calls.added;

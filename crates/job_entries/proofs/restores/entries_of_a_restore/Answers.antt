@@ -1,5 +1,5 @@
 use Rattle.job_entries.proofs.RestoreLaws.{restore-adds, restore_alone-adds}
-use Rattle.job_entries.proofs.restore.entries_of_a_restore.Goals as goal
+use Rattle.job_entries.proofs.restores.entries_of_a_restore.Goals as goal
 
 pub returns-clause-beside_others : goal.returns-clause-beside_others
 returns-clause-beside_others g c = λ standings champions name output before after shelves shelves' result answer.

@@ -1,0 +1,13 @@
+pub mod HeldLaws
+pub mod CompleteLaws
+pub mod KeptLaws
+pub mod ReadLaws
+pub mod StreamLaws
+pub mod GivenLaws
+pub mod WholeLaws
+pub mod AnswerLaws
+pub mod CallLaws
+pub mod StopLaws
+pub mod FrontLaws
+pub mod DamageLaws
+pub mod LaterLaws

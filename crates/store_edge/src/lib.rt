@@ -1,0 +1,16 @@
+//! What stands between a process and a run: the lock on a store's folder, names that no run may touch, and what a
+//! failed sync does to the status.
+#![tactic(auto)]
+
+mod bar;
+mod barred_shelf;
+mod ending;
+mod folder_lock;
+
+pub use bar::Bar;
+pub use barred_shelf::BarredShelf;
+pub use ending::status_beside;
+pub use folder_lock::{Turn, Use, take_turn};
+
+#[cfg(test)]
+mod tests;
