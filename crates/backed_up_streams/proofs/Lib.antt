@@ -13,3 +13,4 @@ pub mod OfStreamsLaws
 pub mod HeldLaws
 pub mod UnstartedLaws
 pub mod HeldBackupLaws
+pub mod CollisionLaws

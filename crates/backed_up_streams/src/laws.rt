@@ -1,7 +1,9 @@
 // From what a backup says of itself to what its history stores.
-ghost use Rattle.std.specs.Prelude.{ℕ, ◌≡◌, ◌⊎◌, true, List, [], ◌∷◌, Some, Result};
+ghost use Rattle.std.specs.Prelude.{ℕ, ◌≡◌, ◌⊎◌, true, List, [], ◌∷◌, ◌++◌, Some, Result};
 ghost use Rattle.std.specs.List.{All};
+ghost use Rattle.ss_base.specs.declared.profile.Numbers.{Numbers};
 ghost use Rattle.ss_base.specs.Profile.{numbers_of};
+ghost use Rattle.journal_entry.specs.declared.entry.Entry.{Entry};
 ghost use Rattle.outside.specs.Shelf.{Objects, Given, bytes_of};
 ghost use Rattle.outside.specs.Views.{ShelfView};
 ghost use Rattle.depot.specs.declared.fault.BackupFault.{BackupFault};
@@ -13,7 +15,7 @@ ghost use Rattle.history_calls.specs.Tokens.{IdleView};
 ghost use Rattle.session.specs.Backup.{BackupAnswer};
 ghost use Rattle.stored_streams.specs.Streams.{Streams};
 ghost use Rattle.stored_streams.specs.OfStreams.{HasContents, IsOfStreams};
-ghost use Rattle.stored_streams.specs.Reads.{IsGiven};
+ghost use Rattle.stored_streams.specs.Reads.{Reads, IsGiven};
 ghost use Rattle.stored_streams.specs.Reads.Reads.{recorded, held};
 ghost use Rattle.stored_streams.specs.Collision.{Collide};
 ghost use Rattle.backed_up_streams.specs.OfInput.{IsOfInput};
@@ -74,4 +76,15 @@ pub fn streams_of_a_backup()
         → IsOfStreams (numbers_of before.seen.profile) streams (past_of before.seen)
         → IsOfStreams (numbers_of before.seen.profile) streams (past_of after.seen)
         ⊎ Collide (numbers_of before.seen.profile) streams (past_of after.seen) (IsGiven (held stored ∷ []) (past_of after.seen)) }
+{}
+
+/// A collision stays one while a legal history goes on, and beside the reads of more handles. It runs nothing.
+pub fn collisions_stay()
+    ensures longer { (n : Numbers) (streams : Streams) (rules : Rules) (reads : List Reads) (newer older : List Entry)
+        → is_legal rules (newer ++ older) ≡ true
+        → Collide n streams older (IsGiven reads older)
+        → Collide n streams (newer ++ older) (IsGiven reads (newer ++ older)) }
+    ensures among { (n : Numbers) (streams : Streams) (past : List Entry) (before reads behind : List Reads)
+        → Collide n streams past (IsGiven reads past)
+        → Collide n streams past (IsGiven (before ++ (reads ++ behind)) past) }
 {}

@@ -4,7 +4,7 @@
 
 mod laws;
 
-pub use laws::{contents_of_a_backup, loads_of_a_backup, streams_of_a_backup};
+pub use laws::{collisions_stay, contents_of_a_backup, loads_of_a_backup, streams_of_a_backup};
 
 #[cfg(test)]
 mod tests;
