@@ -1,0 +1,101 @@
+-- What a depot's shelf tells of its reads, over the calls of a session.
+use Rattle.std.proofs.Common.{◌≡◌, ℕ, ◌*◌, List, [], ◌∷◌, ◌++◌, Option, Some, None, Err, refl, sym, ap, ◌∙◌, inl, inr, append_assoc}
+use Rattle.std.specs.Option.{option_map}
+use Rattle.std.proofs.lemmas.Bool.{cases_Bool}
+use Rattle.std.proofs.lemmas.List.{append-nil}
+use Rattle.ss_base.specs.declared.ids.ManifestId.{ManifestId}
+use Rattle.ss_base.specs.declared.object.Object.TheVariants.{Manifest as ManifestObject}
+use Rattle.ss_base.specs.ObjectName.{object_text}
+use Rattle.manifest_codec.specs.declared.manifest.Manifest.{Manifest}
+use Rattle.manifest_codec.specs.Text.{manifest_text}
+use Rattle.container_file.specs.declared.container_end.ContainerEnd.{ContainerEnd}
+use Rattle.container_file.specs.Layout.{Written as PutBytes}
+use Rattle.segment_plan.specs.Plan.{Located, puts_against}
+use Rattle.outside.specs.Shelf.{Objects, Given, one_more, read_of}
+use Rattle.outside.specs.Views.{ShelfView}
+use Rattle.outside.specs.declared.trouble.Trouble.{Trouble}
+use Rattle.store_core.specs.View.{KeptView}
+use Rattle.depot.specs.declared.fault.LoadFault.{LoadFault}
+use Rattle.depot.specs.declared.fault.LoadFault.TheVariants.{Shelf, Damaged, Unlike, Memory}
+use Rattle.depot.specs.Calls.{HasRead, HasFailed}
+use Rattle.depot.specs.Loading.{LoadAnswer}
+use Rattle.depot.specs.Storing.{PutLeaves, after_put, after_puts}
+use Rattle.depot.specs.Storing.{IsStopped as IsPutStopped}
+use Rattle.segment_store.specs.Loads.{after_load, after_loads, IsStopped}
+use Rattle.segment_store.specs.Stored.{after_segment}
+
+-- a told list with some more
+abbrev pub with_more : Option (List Given) → List Given → Option (List Given)
+with_more told reads = option_map (λ (xs : List Given). xs ++ reads) told
+
+-- from one to the other some reads were made
+pub record GaveMore (before after : ShelfView) : Type 0 where
+  pub reads : List Given
+  pub gave : after.gave ≡ with_more before.gave reads
+
+more_none : (told : Option (List Given)) → told ≡ with_more told []
+more_none None = refl
+more_none (Some xs) = ap (λ (ys : List Given). Some ys) (sym (append-nil xs))
+
+pub more_then : (told : Option (List Given)) (xs ys : List Given) → with_more (with_more told xs) ys ≡ with_more told (xs ++ ys)
+more_then None xs ys = refl
+more_then (Some told) xs ys = ap (λ (zs : List Given). Some zs) (append_assoc told xs ys)
+
+pub gave_none : (shelf : ShelfView) → shelf.gave ≡ with_more shelf.gave []
+gave_none shelf = more_none shelf.gave
+
+pub gave_same : (before after : ShelfView) → after.gave ≡ before.gave → GaveMore before after
+gave_same before after same = record { reads = []; gave = same ∙ more_none before.gave }
+
+pub gave_one : (before after : ShelfView) (read : Given) → after.gave ≡ one_more before.gave read → GaveMore before after
+gave_one before after read same = record { reads = read ∷ []; gave = same }
+
+pub gave_then : (one two three : ShelfView) → GaveMore one two → GaveMore two three → GaveMore one three
+gave_then one two three first second = record {
+  reads = first.reads ++ second.reads;
+  gave = second.gave ∙ ap (λ (told : Option (List Given)). with_more told second.reads) first.gave ∙ more_then one.gave first.reads second.reads;
+}
+
+-- ---- loads
+
+pub loads_gave : (shelf : ShelfView) (kepts : List KeptView) (manifests : List Manifest) → GaveMore shelf (after_loads shelf kepts manifests)
+loads_gave shelf [] manifests = gave_same shelf shelf refl
+loads_gave shelf (kept ∷ kepts) [] = gave_same shelf shelf refl
+loads_gave shelf (kept ∷ kepts) (manifest ∷ manifests) =
+    gave_then shelf (after_load shelf kept manifest) (after_loads (after_load shelf kept manifest) kepts manifests)
+    (record { reads = read_of (object_text (ManifestObject kept.id)) 0 (48 * kept.chunks) (manifest_text manifest.pieces.items manifest.places.items) ∷ []; gave = refl })
+    (loads_gave (after_load shelf kept manifest) kepts manifests)
+
+read_gave : (before after : ShelfView) (name : List ℕ) (at max : ℕ) (bytes : List ℕ) → HasRead before after name at max bytes → GaveMore before after
+read_gave before after name at max bytes has = gave_one before after (read_of name at max bytes) (ap (λ (s : ShelfView). s.gave) has.call)
+
+failed_load-gave : (before after : ShelfView) (kept : KeptView) (fault : LoadFault) → LoadAnswer before after kept (Err fault) → GaveMore before after
+failed_load-gave before after kept Shelf has = gave_same before after (ap (λ (s : ShelfView). s.gave) has.call)
+failed_load-gave before after kept (Damaged want got) has = read_gave before after (object_text (ManifestObject kept.id)) 0 (48 * kept.chunks) has.bytes has.given
+failed_load-gave before after kept (Unlike text) has = read_gave before after (object_text (ManifestObject kept.id)) 0 (48 * kept.chunks) has.bytes has.given
+failed_load-gave before after kept Memory (inl (inl same)) = gave_same before after (ap (λ (s : ShelfView). s.gave) same)
+failed_load-gave before after kept Memory (inl (inr same)) = gave_same before after (ap (λ (s : ShelfView). s.gave) same)
+failed_load-gave before after kept Memory (inr (given, has)) = read_gave before after (object_text (ManifestObject kept.id)) 0 (48 * kept.chunks) given has
+
+pub stopped_loads-gave : (before after : ShelfView) (kepts : List KeptView) (fault : LoadFault) → IsStopped before after kepts fault → GaveMore before after
+stopped_loads-gave before after kepts fault is =
+    let between = after_loads before is.done is.manifests in
+    gave_then before between after (loads_gave before is.done is.manifests) (failed_load-gave between after is.kept fault is.failed)
+
+-- ---- puts and creates, which read nothing
+
+put_gave : (shelf : ShelfView) (put : PutBytes) → (after_put shelf put).gave ≡ shelf.gave
+put_gave shelf put = elim (cases_Bool put.starts) [ inl starts ↦ rw starts refl | inr adds ↦ rw adds refl ]
+
+pub puts_gave : (shelf : ShelfView) (puts : List PutBytes) → (after_puts shelf puts).gave ≡ shelf.gave
+puts_gave shelf [] = refl
+puts_gave shelf (put ∷ puts) = puts_gave (after_put shelf put) puts ∙ put_gave shelf put
+
+pub segment_gave : (shelf : ShelfView) (id : ManifestId) (chunks : List (List ℕ)) (manifests : List Located) (end : ContainerEnd) (room : ℕ) → (after_segment shelf id chunks manifests end room).gave ≡ shelf.gave
+segment_gave shelf id chunks manifests end room = puts_gave shelf (puts_against chunks manifests end room)
+
+pub failed-gave : (leaves : Option Objects → Option Objects → Type 0) (before after : ShelfView) (trouble : Trouble) → HasFailed leaves before after trouble → after.gave ≡ before.gave
+failed-gave leaves before after trouble has = ap (λ (s : ShelfView). s.gave) has.others
+
+pub stopped_puts-gave : (before after : ShelfView) (puts : List PutBytes) (trouble : Trouble) → IsPutStopped before after puts trouble → after.gave ≡ before.gave
+stopped_puts-gave before after puts trouble is = failed-gave (PutLeaves is.put) (after_puts before is.done) after trouble is.failed ∙ puts_gave before is.done

@@ -1,0 +1,16 @@
+pub mod AloneLaws
+pub mod InputLaws
+pub mod SegmentLaws
+pub mod ContentLaws
+pub mod BackupLaws
+pub mod KeptLaws
+pub mod LoadLaws
+pub mod GaveLaws
+pub mod StreamLaws
+pub mod RunLaws
+pub mod RecordedLaws
+pub mod OfStreamsLaws
+pub mod HeldLaws
+pub mod UnstartedLaws
+pub mod HeldBackupLaws
+pub mod CollisionLaws

@@ -1,0 +1,6 @@
+pub use Rattle.stored_streams.specs.OfStreams
+pub use Rattle.session.specs.Backup
+pub use Rattle.stored_streams.specs.Reads
+pub use Rattle.stored_streams.specs.Collision
+pub mod OfInput
+pub mod Loaded
