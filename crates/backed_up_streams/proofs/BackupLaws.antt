@@ -40,7 +40,7 @@ use Rattle.stored_streams.specs.OfStreams.{HasContents}
 use Rattle.backed_up_streams.specs.OfInput.{IsOfInput}
 use Rattle.backed_up_streams.proofs.AloneLaws.{alone, open_at, chosen_at, is_open_at, is_chosen_at, Steps, steps, at_seen, legal_at, not_chosen, not_committed, finished, aborted, aborted_chosen}
 use Rattle.backed_up_streams.proofs.ContentLaws.{HasCome, WaitsAt, contents_more, self, choice-waits, segments-stand}
-use Rattle.backed_up_streams.proofs.InputLaws.{input-whole, input-front}
+use Rattle.job_entries.proofs.InputLaws.{input-whole, input-front}
 
 -- ---- the session that a Begin is given
 

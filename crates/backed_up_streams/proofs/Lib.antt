@@ -1,5 +1,4 @@
 pub mod AloneLaws
-pub mod InputLaws
 pub mod SegmentLaws
 pub mod ContentLaws
 pub mod BackupLaws

@@ -23,7 +23,7 @@ use Rattle.session.specs.Backup.{input_view, HasStarted}
 use Rattle.stored_streams.specs.Streams.{Streams}
 use Rattle.stored_streams.specs.Plans.{Planned, plans_of}
 use Rattle.backed_up_streams.proofs.AloneLaws.{alone}
-use Rattle.backed_up_streams.proofs.InputLaws.{input-whole, input-front}
+use Rattle.job_entries.proofs.InputLaws.{input-whole, input-front}
 use Rattle.backed_up_streams.proofs.BackupLaws.{begin_steps, is_n}
 use Rattle.backed_up_streams.proofs.LoadLaws.{IsTelling, IsSoFar, HasEnded, start_so_far}
 use Rattle.backed_up_streams.proofs.StreamLaws.{StandsSo, open-ended, finish-ended, segment-ended, segments-so}
