@@ -1,0 +1,4 @@
+pub mod OpenedLaws
+pub mod RestoreLaws
+pub mod PointLaws
+pub mod RunLaws

@@ -1,0 +1,47 @@
+// From what a run of a job did to the streams of its store.
+ghost use Rattle.std.specs.Prelude.{ℕ, ◌≡◌, ◌⊎◌, [], ◌∷◌, List, Some};
+ghost use Rattle.std.specs.List.{All};
+ghost use Rattle.ss_base.specs.Profile.{numbers_of};
+ghost use Rattle.journal_entry.specs.Bounds.{IsEntry};
+ghost use Rattle.outside.specs.Shelf.{Objects};
+ghost use Rattle.outside.specs.Views.{SinkView};
+ghost use Rattle.store_core.specs.View.{past_of};
+ghost use Rattle.restore.specs.Copies.{Shelves};
+ghost use Rattle.stored_streams.specs.Streams.{Streams};
+ghost use Rattle.stored_streams.specs.OfStreams.{IsOfStreams};
+ghost use Rattle.stored_streams.specs.Reads.{IsGiven};
+ghost use Rattle.stored_streams.specs.Reads.Reads.{held};
+ghost use Rattle.stored_streams.specs.Collision.{Collide};
+ghost use Rattle.restored_streams.specs.Restored.{HasRestored};
+ghost use Rattle.job_script.specs.declared.job.JobKind.{JobKind};
+ghost use Rattle.job_script.specs.declared.job.JobKind.TheVariants.{Restore};
+ghost use Rattle.report.specs.declared.answer.JobAnswer.TheVariants.{Ok};
+ghost use Rattle.store_run.specs.JobRun.{HasDoneJob};
+ghost use Rattle.run_streams.specs.RunStreams.{HasInput};
+
+/// A restore that answers, in a store whose history is that of some streams, leaves as its output exactly the
+/// stream of the session that the name stands for, and no other file changes; or two different byte lists among those that
+/// were hashed have one SHA-256. The depot is told, and its objects may be anything. It runs nothing.
+pub fn restored_by_a_run()
+    ensures { (streams : Streams) (objects : Objects) (name output : List ℕ) (before after : Shelves) (sink sink' : SinkView) (status : ℕ)
+        → (done : HasDoneJob (Restore name output) before after sink sink' status)
+        → done.answer ≡ Ok
+        → before.depot.held ≡ Some objects
+        → IsOfStreams (numbers_of done.store.profile) streams (past_of done.store)
+        → ((count : ℕ) × HasRestored streams (past_of done.store) name output before.files after.files count)
+        ⊎ Collide (numbers_of done.store.profile) streams (past_of done.store) (IsGiven (held objects ∷ []) (past_of done.store)) }
+{}
+
+/// A run of any job leaves the history of its store one of the streams, or two different byte lists among those that were
+/// hashed have one SHA-256; a backup's stream is its input's bytes. The depot is told, and its objects may be anything.
+/// It runs nothing.
+pub fn streams_of_a_run()
+    ensures { (kind : JobKind) (streams : Streams) (objects : Objects) (before after : Shelves) (sink sink' : SinkView) (status : ℕ)
+        → (done : HasDoneJob kind before after sink sink' status)
+        → before.depot.held ≡ Some objects
+        → HasInput kind streams before.files (past_of done.store) (past_of done.new)
+        → All IsEntry (past_of done.new)
+        → IsOfStreams (numbers_of done.store.profile) streams (past_of done.store)
+        → IsOfStreams (numbers_of done.store.profile) streams (past_of done.new)
+        ⊎ Collide (numbers_of done.store.profile) streams (past_of done.new) (IsGiven (held objects ∷ []) (past_of done.new)) }
+{}

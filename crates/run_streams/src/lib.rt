@@ -1,0 +1,10 @@
+//! What runs of the program store and give back, by the streams of their store. It runs nothing: each call has a law as
+//! its contract.
+#![tactic(auto)]
+
+mod laws;
+
+pub use laws::{restored_by_a_run, streams_of_a_run};
+
+#[cfg(test)]
+mod tests;

@@ -1,0 +1,10 @@
+use super::*;
+use std::test::Fail;
+
+// The laws run nothing.
+#[test]
+fn each_law_is_called(_rt: HostRuntime) -> Result<(), Fail> {
+    restored_by_a_run();
+    streams_of_a_run();
+    Ok(())
+}
