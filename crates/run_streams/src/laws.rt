@@ -15,17 +15,15 @@ ghost use Rattle.stored_streams.specs.Collision.{Collide};
 ghost use Rattle.restored_streams.specs.Restored.{HasRestored};
 ghost use Rattle.job_script.specs.declared.job.JobKind.{JobKind};
 ghost use Rattle.job_script.specs.declared.job.JobKind.TheVariants.{Restore};
-ghost use Rattle.report.specs.declared.answer.JobAnswer.TheVariants.{Ok};
 ghost use Rattle.store_run.specs.JobRun.{HasDoneJob};
 ghost use Rattle.run_streams.specs.RunStreams.{HasInput};
 
-/// A restore that answers, in a store whose history is that of some streams, leaves as its output exactly the
+/// A restore that ends with status 0, in a store whose history is that of some streams, leaves as its output exactly the
 /// stream of the session that the name stands for, and no other file changes; or two different byte lists among those that
 /// were hashed have one SHA-256. The depot is told, and its objects may be anything. It runs nothing.
 pub fn restored_by_a_run()
-    ensures { (streams : Streams) (objects : Objects) (name output : List ℕ) (before after : Shelves) (sink sink' : SinkView) (status : ℕ)
-        → (done : HasDoneJob (Restore name output) before after sink sink' status)
-        → done.answer ≡ Ok
+    ensures { (streams : Streams) (objects : Objects) (name output : List ℕ) (before after : Shelves) (sink sink' : SinkView)
+        → (done : HasDoneJob (Restore name output) before after sink sink' 0)
         → before.depot.held ≡ Some objects
         → IsOfStreams (numbers_of done.store.profile) streams (past_of done.store)
         → ((count : ℕ) × HasRestored streams (past_of done.store) name output before.files after.files count)
