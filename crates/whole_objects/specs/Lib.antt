@@ -1,0 +1,3 @@
+pub use Rattle.stored_streams.specs.Whole
+pub mod Keeps
+pub mod Records
