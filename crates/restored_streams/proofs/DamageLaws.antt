@@ -45,7 +45,7 @@ use Rattle.stored_streams.specs.Streams.{Streams, manifest_pieces}
 use Rattle.stored_streams.specs.Plans.{planned_places, plan_for, next_plan, plans_after, plans_of, text_of as planned_text}
 use Rattle.stored_streams.specs.OfStreams.{ContentOf, StoredOf, EachEntry}
 use Rattle.stored_streams.specs.Whole.{IsManifestWhole, IsWhole}
-use Rattle.stored_streams.proofs.CommittedLaws.{committed_kept, committed_manifest, kept_older}
+use Rattle.stored_streams.proofs.CommittedLaws.{committed_kept, committed_manifest, kept_here, kept_older, kept_counts}
 use Rattle.stored_streams.proofs.PlanLaws.{places_newest, places_stay}
 use Rattle.restore.specs.Faults.{output_fault, look_fault, load_fault, chunk_fault}
 use Rattle.restore.specs.Reads.{Listed, listed_by, ChunkRead, ManifestRead, after_load, chunk_at, text_at, text_of}
@@ -57,7 +57,7 @@ use Rattle.restore.proofs.HeldLaws.{told, chunks_unchanged, manifests_unchanged}
 use Rattle.restored_streams.specs.Restored.{TellsNoDamage}
 use Rattle.restored_streams.proofs.KeptLaws.{manifest_at, IsKeptAt, row_at}
 use Rattle.restored_streams.proofs.StreamLaws.{IsKnown, text_planned}
-use Rattle.restored_streams.proofs.WholeLaws.{kept_here, kept_counts, retained_live, text_at_planned}
+use Rattle.restored_streams.proofs.WholeLaws.{retained_live, text_at_planned}
 use Rattle.restored_streams.proofs.FrontLaws.{get_next}
 
 -- ---- what was kept is like what was planned

@@ -20,6 +20,7 @@ use Rattle.history_laws.proofs.SessionLaws.{has_now, has_older}
 use Rattle.history_laws.proofs.OnceLaws.{never_twice}
 use Rattle.history_laws.proofs.NumberLaws.{entry_kept, entry_last, numbers_more, numbers_same, numbers_first, numbers_do}
 use Rattle.store_core.specs.View.{KeptView, kept, kept_by, kept_at, stream_kept}
+use Rattle.stored_streams.proofs.CommittedLaws.{kept_here, kept_older}
 use Rattle.restored_streams.proofs.CompleteLaws.{commits_same, commits_more}
 
 -- ---- what is kept of a session, entry by entry
@@ -86,14 +87,6 @@ next_commit rules past author s (Commit id content text chunks bytes fresh fresh
       does = ap (λ (m : ManifestId). same_manifest m id) (sym is) ∙ same_manifest-self id;
     }
 next_commit rules past author s _ allowed does = absurd (false≢true does)
-
-kept_here : (id : ManifestId) (entry : Entry) (past : List Entry) → commits_manifest id entry.point ≡ true → kept id (entry ∷ past) ≡ kept_by entry.point
-unfolding kept newest
-kept_here id entry past does = rw does refl
-
-kept_older : (id : ManifestId) (entry : Entry) (past : List Entry) → commits_manifest id entry.point ≡ false → kept id (entry ∷ past) ≡ kept id past
-unfolding kept newest
-kept_older id entry past other = rw other refl
 
 -- what is kept of a manifest, and that it is committed
 pub record IsKeptAt (past : List Entry) (id : ManifestId) (view : KeptView) : Type 0 where

@@ -26,35 +26,12 @@ use Rattle.stored_streams.specs.Streams.{Streams, manifest_chunks, manifest_piec
 use Rattle.stored_streams.specs.Plans.{planned_places, plans_of, text_of as planned_text}
 use Rattle.stored_streams.specs.OfStreams.{ContentOf, EachEntry}
 use Rattle.stored_streams.specs.Whole.{IsWhole}
-use Rattle.stored_streams.proofs.CommittedLaws.{committed_kept, committed_manifest, kept_older}
+use Rattle.stored_streams.proofs.CommittedLaws.{committed_kept, committed_manifest, kept_counts}
 use Rattle.restore.specs.Reads.{Listed, ManifestRead, AreManifestsRead, bytes_of_chunks, bytes_of_manifests, text_of, text_at}
 use Rattle.restored_streams.specs.Restored.{IsBegunChunk, ChunksCollide}
 use Rattle.restored_streams.proofs.KeptLaws.{manifest_at, IsKeptAt}
 use Rattle.restored_streams.proofs.ReadLaws.{IsReadFrom, names_listed, text_is_held, chunk_is_held, front_or_differ}
 use Rattle.restored_streams.proofs.StreamLaws.{IsKnown, BeginsSegment, EachBegins, contains_in, text_planned, names_same, stream_or}
-
--- ---- the number of chunks that was kept is that of the segment
-
-pub kept_here : (id : ManifestId) (entry : Entry) (past : List Entry) → commits_manifest id entry.point ≡ true → kept id (entry ∷ past) ≡ kept_by entry.point
-unfolding kept newest
-kept_here id entry past does = rw does refl
-
-point_counts : (n : Numbers) (streams : Streams) (past : List Entry) (id : ManifestId) (view : KeptView) (point : Point) → commits_manifest id point ≡ true → ContentOf n streams past point → kept_by point ≡ Some view → view.chunks ≡ length (manifest_pieces n streams id)
-unfolding commits_manifest kept_by
-point_counts n streams past id view (Commit other content text chunks bytes fresh fresh_bytes uses) does holds is =
-    let same : record { id = other; text = text; content = content; chunks = chunks; uses = uses } ≡ view = cc in
-    ap (λ (v : KeptView). v.chunks) (sym same) ∙ holds.chunk_count ∙ ap (λ (i : ManifestId). length (manifest_pieces n streams i)) (sym (same_manifest-true id other does))
-point_counts n streams past id view _ does holds is = absurd (false≢true does)
-
-pub kept_counts : (n : Numbers) (streams : Streams) (past : List Entry) (id : ManifestId) (view : KeptView) → EachEntry (ContentOf n streams) past → has (commits_manifest id) past ≡ true → kept id past ≡ Some view → view.chunks ≡ length (manifest_pieces n streams id)
-kept_counts n streams [] id view contents committed is = absurd (both_ways _ (has_none (commits_manifest id)) committed)
-kept_counts n streams (entry ∷ past) id view contents committed is = elim (cases_Bool (commits_manifest id entry.point)) [
-  | inl here ↦ point_counts n streams past id view entry.point here contents.1 (sym (kept_here id entry past here) ∙ is)
-  | inr other ↦ elim (has_cases (commits_manifest id) entry past committed) [
-    | inl here ↦ absurd (both_ways _ other here)
-    | inr older ↦ kept_counts n streams past id view contents.0 older (sym (kept_older id entry past other) ∙ is)
-  ]
-]
 
 -- ---- one manifest
 

@@ -2,7 +2,7 @@
 use Rattle.std.proofs.Common.{◌≡◌, ℕ, zero, suc, ◌≤◌, true, false, List, [], ◌∷◌, length, Some, refl, sym, ap, ◌∙◌, subst, inl, inr, arith}
 use mathlib.Core.List.{map}
 use Rattle.std.specs.List.{All, AllByRecursion, Contains}
-use Rattle.std.proofs.lemmas.Bool.{false≢true, cases_Bool, and_parts, leb-true}
+use Rattle.std.proofs.lemmas.Bool.{false≢true, both_ways, cases_Bool, and_parts, leb-true}
 use Rattle.std.proofs.lemmas.List.{length-map}
 use Rattle.std.proofs.lemmas.List.Elements.{All-head, All-tail}
 use Rattle.ss_base.specs.declared.ids.ContainerId.{ContainerId}
@@ -45,7 +45,7 @@ pub record IsKeptOf (n : Numbers) (streams : Streams) (past : List Entry) (id : 
   pub count : length (planned_places id (plans_of n streams past)) ≡ length (manifest_chunks n streams id)
   pub fits : Each (λ (p : Place). FitsContainer p.container) (planned_places id (plans_of n streams past))
 
-kept_here : (id : ManifestId) (entry : Entry) (past : List Entry) → commits_manifest id entry.point ≡ true → kept id (entry ∷ past) ≡ kept_by entry.point
+pub kept_here : (id : ManifestId) (entry : Entry) (past : List Entry) → commits_manifest id entry.point ≡ true → kept id (entry ∷ past) ≡ kept_by entry.point
 unfolding kept newest
 kept_here id entry past does = rw does refl
 
@@ -157,3 +157,22 @@ committed_manifest n streams past id sound is =
           let most = within p h in
           record { session = fits.0; ordinal = fits.1; offset = omega (arith, most, room) });
     }
+
+-- ---- the number of chunks that was kept is that of the segment
+
+point_counts : (n : Numbers) (streams : Streams) (past : List Entry) (id : ManifestId) (view : KeptView) (point : Point) → commits_manifest id point ≡ true → ContentOf n streams past point → kept_by point ≡ Some view → view.chunks ≡ length (manifest_pieces n streams id)
+unfolding commits_manifest kept_by
+point_counts n streams past id view (Commit other content text chunks bytes fresh fresh_bytes uses) does holds is =
+    let same : record { id = other; text = text; content = content; chunks = chunks; uses = uses } ≡ view = cc in
+    ap (λ (v : KeptView). v.chunks) (sym same) ∙ holds.chunk_count ∙ ap (λ (i : ManifestId). length (manifest_pieces n streams i)) (sym (same_manifest-true id other does))
+point_counts n streams past id view _ does holds is = absurd (false≢true does)
+
+pub kept_counts : (n : Numbers) (streams : Streams) (past : List Entry) (id : ManifestId) (view : KeptView) → EachEntry (ContentOf n streams) past → has (commits_manifest id) past ≡ true → kept id past ≡ Some view → view.chunks ≡ length (manifest_pieces n streams id)
+kept_counts n streams [] id view contents committed is = absurd (both_ways _ (has_none (commits_manifest id)) committed)
+kept_counts n streams (entry ∷ past) id view contents committed is = elim (cases_Bool (commits_manifest id entry.point)) [
+  | inl here ↦ point_counts n streams past id view entry.point here contents.1 (sym (kept_here id entry past here) ∙ is)
+  | inr other ↦ elim (has_cases (commits_manifest id) entry past committed) [
+    | inl here ↦ absurd (both_ways _ other here)
+    | inr older ↦ kept_counts n streams past id view contents.0 older (sym (kept_older id entry past other) ∙ is)
+  ]
+]

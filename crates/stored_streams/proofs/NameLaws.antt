@@ -64,26 +64,38 @@ container_or_manifest : (x y : List ℕ) → 99 ∷ x ≢ 109 ∷ y
 container_or_manifest x y e = let first : 99 ≡ 109 = ap (λ (l : List ℕ). get_or l 0 0) e in omega (arith, first)
 
 -- objects with one name are of one session
-session_named : (a b : Object) → session_of a < 2 ^ 64 → session_of b < 2 ^ 64 → object_text a ≡ object_text b → session_of a ≡ session_of b
+pub session_named : (a b : Object) → session_of a < 2 ^ 64 → session_of b < 2 ^ 64 → object_text a ≡ object_text b → session_of a ≡ session_of b
 session_named (Container a) (Container b) small small_too e = (numbers_same a.session b.session (decimal a.ordinal) (decimal b.ordinal) small small_too (ap (drop 2) e)).0
 session_named (Container a) (Manifest b) small small_too e = absurd (container_or_manifest _ _ e)
 session_named (Manifest a) (Container b) small small_too e = absurd (container_or_manifest _ _ (sym e))
 session_named (Manifest a) (Manifest b) small small_too e = (numbers_same a.session b.session (decimal a.seq) (decimal b.seq) small small_too (ap (drop 2) e)).0
 
--- and are one, where their numbers fit
-pub same_object_text : (a b : Object) → FitsObject a → FitsObject b → object_text a ≡ object_text b → a ≡ b
-same_object_text (Container a) (Container b) (s, k) (t, l) e =
-    let both = numbers_same a.session b.session (decimal a.ordinal) (decimal b.ordinal) (omega (arith, s)) (omega (arith, t)) (ap (drop 2) e) in
-    let same = decimal_injective a.ordinal b.ordinal (omega (arith, k)) (omega (arith, l)) both.1 in
+-- numbers whose decimal text tells them
+abbrev pub AreSmall : Object → Type 0
+AreSmall (Container id) = (id.session < 2 ^ 64) × (id.ordinal < 2 ^ 64)
+AreSmall (Manifest id) = (id.session < 2 ^ 64) × (id.seq < 2 ^ 64)
+
+-- and are one, where their numbers are small
+pub same_small : (a b : Object) → AreSmall a → AreSmall b → object_text a ≡ object_text b → a ≡ b
+same_small (Container a) (Container b) (s, k) (t, l) e =
+    let both = numbers_same a.session b.session (decimal a.ordinal) (decimal b.ordinal) s t (ap (drop 2) e) in
+    let same = decimal_injective a.ordinal b.ordinal k l both.1 in
     let sessions = both.0 in
     λ i. let id : ContainerId = record { session = sessions i; ordinal = same i } in Container id
-same_object_text (Container a) (Manifest b) fits fits_too e = absurd (container_or_manifest _ _ e)
-same_object_text (Manifest a) (Container b) fits fits_too e = absurd (container_or_manifest _ _ (sym e))
-same_object_text (Manifest a) (Manifest b) (s, k) (t, l) e =
-    let both = numbers_same a.session b.session (decimal a.seq) (decimal b.seq) (omega (arith, s)) (omega (arith, t)) (ap (drop 2) e) in
-    let same = decimal_injective a.seq b.seq (omega (arith, k)) (omega (arith, l)) both.1 in
+same_small (Container a) (Manifest b) small small_too e = absurd (container_or_manifest _ _ e)
+same_small (Manifest a) (Container b) small small_too e = absurd (container_or_manifest _ _ (sym e))
+same_small (Manifest a) (Manifest b) (s, k) (t, l) e =
+    let both = numbers_same a.session b.session (decimal a.seq) (decimal b.seq) s t (ap (drop 2) e) in
+    let same = decimal_injective a.seq b.seq k l both.1 in
     let sessions = both.0 in
     λ i. let id : ManifestId = record { session = sessions i; seq = same i } in Manifest id
+
+pub small : (a : Object) → FitsObject a → AreSmall a
+small (Container id) (s, k) = (omega (arith, s), omega (arith, k))
+small (Manifest id) (s, k) = (omega (arith, s), omega (arith, k))
+
+pub same_object_text : (a b : Object) → FitsObject a → FitsObject b → object_text a ≡ object_text b → a ≡ b
+same_object_text a b fits fits_too e = same_small a b (small a fits) (small b fits_too) e
 
 pub not_journal : (a : Object) → codes "journal" ≢ object_text a
 not_journal (Container a) e = let first : 106 ≡ 99 = ap (λ (l : List ℕ). get_or l 0 0) e in omega (arith, first)

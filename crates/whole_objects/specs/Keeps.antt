@@ -1,5 +1,5 @@
 -- Objects among which all that a history wants is still there (this project's own).
-use Rattle.std.specs.Prelude.{ℕ, ◌≡◌, ◌<◌, ◌≢◌, true, List, ◌++◌}
+use Rattle.std.specs.Prelude.{ℕ, ◌≡◌, ◌<◌, ◌^◌, ◌≢◌, true, List, ◌++◌}
 use Rattle.ss_base.specs.declared.ids.ContainerId.{ContainerId}
 use Rattle.ss_base.specs.declared.ids.ManifestId.{ManifestId}
 use Rattle.ss_base.specs.declared.object.Object.TheVariants.{Container, Manifest}
@@ -9,7 +9,6 @@ use Rattle.outside.specs.Shelf.{Objects, bytes_of}
 use Rattle.journal_entry.specs.declared.entry.Entry.{Entry}
 use Rattle.journal_entry.specs.declared.entry.Point.{Point}
 use Rattle.journal_entry.specs.declared.entry.Point.TheVariants.{Commit}
-use Rattle.journal_entry.specs.Bounds.{FitsContainer}
 use Rattle.history.specs.Need.{is_live, is_needed}
 use Rattle.stored_streams.specs.Streams.{Streams}
 use Rattle.stored_streams.specs.Plans.{containers_of}
@@ -27,7 +26,7 @@ pub record KeepsWanted (n : Numbers) (streams : Streams) (past : List Entry) (ob
 
 -- All but the containers of one session are as they were.
 pub record KeepsOthers (session : ℕ) (objects now : Objects) : Type 0 where
-  pub containers : (id : ContainerId) → FitsContainer id → id.session ≢ session
+  pub containers : (id : ContainerId) → id.session < 2 ^ 32 → id.session ≢ session
       → bytes_of now (object_text (Container id)) ≡ bytes_of objects (object_text (Container id))
   pub manifests : (id : ManifestId) → bytes_of now (object_text (Manifest id)) ≡ bytes_of objects (object_text (Manifest id))
 

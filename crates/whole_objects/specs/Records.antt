@@ -11,7 +11,7 @@ use Rattle.outside.specs.Shelf.{Objects, bytes_of}
 use Rattle.journal_entry.specs.declared.entry.Entry.{Entry}
 use Rattle.stored_streams.specs.Streams.{Streams}
 use Rattle.stored_streams.specs.Plans.{plans_of, laid_of, end_of}
-use Rattle.whole_objects.specs.Keeps.{KeepsOthers}
+use Rattle.whole_objects.specs.Keeps.{GoesOn, KeepsOthers}
 
 -- the text of a container in which these are laid out
 abbrev pub laid_text : ContainerId → List Laid → List ℕ
@@ -35,3 +35,5 @@ pub record ArePut (n : Numbers) (streams : Streams) (session : ℕ) (past : List
       HoldRecords session (end_against chunks located (end_of session plans) n.room).containers
       (laid_of session plans ++ laid_against chunks located (end_of session plans) n.room) now
   pub others : KeepsOthers session objects now
+  pub grown : (ordinal : ℕ) → ordinal < (end_of session (plans_of n streams past)).containers
+      → let name = object_text (Container (record { session = session; ordinal = ordinal })) in GoesOn (bytes_of objects name) (bytes_of now name)
