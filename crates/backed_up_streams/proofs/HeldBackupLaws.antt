@@ -2,6 +2,7 @@
 use Rattle.std.proofs.Common.{◌≡◌, ℕ, true, false, List, [], ◌∷◌, ◌++◌, Some, Result, Ok, Err, refl, sym, ◌∙◌, subst, inl, inr}
 use Rattle.std.specs.List.{All}
 use Rattle.std.proofs.lemmas.Bool.{false≢true}
+use Rattle.std.proofs.lemmas.List.Elements.{All-tail}
 use Rattle.ss_base.specs.declared.ids.ManifestId.{ManifestId}
 use Rattle.ss_base.specs.declared.profile.Numbers.{Numbers}
 use Rattle.ss_base.specs.Profile.{numbers_of}
@@ -26,6 +27,7 @@ use Rattle.stored_streams.specs.Streams.{Streams}
 use Rattle.stored_streams.specs.Plans.{Planned, plans_of}
 use Rattle.stored_streams.specs.Reads.{IsTextHeld, IsGiven}
 use Rattle.stored_streams.specs.Reads.Reads.{held}
+use Rattle.stored_streams.proofs.CommittedLaws.{kept_older}
 use Rattle.backed_up_streams.specs.OfInput.{IsOfInput}
 use Rattle.backed_up_streams.specs.Loaded.{HasLoaded}
 use Rattle.backed_up_streams.proofs.AloneLaws.{alone, legal_at}
@@ -46,15 +48,16 @@ module _ (n : Numbers) (streams : Streams) (older : List Entry) (author session 
       → HasLoaded n streams (held objects ∷ []) older past
   ended-held past depot' is entries =
       let entries_now = subst (λ (p : List Entry). All IsEntry p) is.past_is entries in
-      let facts = is.told.facts (is.allowed_then entries_now) in
+      let past_now = is.last ∷ (is.then_newer ++ older) in
+      let facts = is.told.facts (All-tail IsEntry is.last (is.then_newer ++ older) entries_now) in
       let there : (b : List ℕ) → In b is.texts → IsGiven (held objects ∷ []) past b =
       λ b h. inl (inl (subst (λ (p : List Entry). IsTextHeld objects p b) (sym is.past_is)
-      (still_held (is.then_newer ++ older) (is.newer ++ older) b is.kept_same (facts.texts_held b h)))) in
+      (still_held (is.then_newer ++ older) past_now b (λ id. kept_older id is.last (is.then_newer ++ older) (is.commits_none id)) (facts.texts_held b h)))) in
       record {
-        newer = is.newer;
+        newer = is.last ∷ is.then_newer;
         past_is = is.past_is;
         loads = is.loads;
-        stores = stores_weaker (λ b. In b is.texts) (IsGiven (held objects ∷ []) past) there n streams is.loads is.newer older (is.stores entries_now is.texts (λ b h. h));
+        stores = stores_weaker (λ b. In b is.texts) (IsGiven (held objects ∷ []) past) there n streams is.loads (is.last ∷ is.then_newer) older (is.stores entries_now is.texts (λ b h. h));
       }
 
   -- before anything is stored

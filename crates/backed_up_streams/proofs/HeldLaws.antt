@@ -50,7 +50,8 @@ use Rattle.stored_streams.proofs.CommittedLaws.{kept_older}
 use Rattle.stored_streams.proofs.NameLaws.{same_object_text}
 use Rattle.stored_streams.proofs.PlanLaws.{places_newest}
 use Rattle.stored_streams.proofs.SegmentLaws.{pieces_named}
-use Rattle.backed_up_streams.proofs.LoadLaws.{text_loaded, commit_point, IsTelling, LoadTold}
+use Rattle.whole_objects.proofs.FitLaws.{committed_fits}
+use Rattle.backed_up_streams.proofs.LoadLaws.{text_loaded, commit_point, live_committed, IsTelling, LoadTold}
 
 -- texts of one size, one behind another
 length-texts : {X : Type 0} (f : X → List ℕ) (size : ℕ) (xs : List X) → All (λ x. length (f x) ≡ size) xs → length (flat_map f xs) ≡ size * length xs
@@ -115,21 +116,6 @@ kept_committed id [] view is = absurd (cc)
 kept_committed id (entry ∷ past) view is = elim (cases_Bool (commits_manifest id entry.point)) [
   | inl here ↦ has_now (commits_manifest id) entry past here
   | inr not ↦ has_older (commits_manifest id) entry past (kept_committed id past view (sym (kept_older id entry past not) ∙ is))
-]
-
-fits_point : (id : ManifestId) (point : Point) → PointFits point → commits_manifest id point ≡ true → FitsManifest id
-unfolding commits_manifest
-fits_point id (Commit other content text chunks bytes fresh fresh_bytes uses) fits does = subst FitsManifest (sym (same_manifest-true id other does)) fits.0
-fits_point id _ fits does = absurd (false≢true does)
-
-fits_one : (id : ManifestId) (entry : Entry) → IsEntry entry → commits_manifest id entry.point ≡ true → FitsManifest id
-fits_one id entry is does = fits_point id entry.point is.point does
-
-committed_fits : (id : ManifestId) (past : List Entry) → All IsEntry past → has (commits_manifest id) past ≡ true → FitsManifest id
-committed_fits id [] entries there = absurd (false≢true (sym (has_none (commits_manifest id)) ∙ there))
-committed_fits id (entry ∷ past) entries there = elim (has_cases (commits_manifest id) entry past there) [
-  | inl here ↦ fits_one id entry (All-head IsEntry entry past entries) here
-  | inr older ↦ committed_fits id past (All-tail IsEntry entry past entries) older
 ]
 
 kept_now : (id : ManifestId) (entry : Entry) (past : List Entry) → commits_manifest id entry.point ≡ true → kept id (entry ∷ past) ≡ kept_by entry.point
@@ -340,9 +326,9 @@ module _ (n : Numbers) (streams : Streams) (older : List Entry) (author session 
   pub is_holding : IsTelling n streams older author session HeldSo (All IsEntry)
   is_holding = record {
     before = λ entry past entries. All-tail IsEntry entry past entries;
-    load = λ texts newer plans shelf view manifest committed kept_is loaded so. load_held texts newer plans shelf view manifest committed kept_is loaded so;
+    load = λ texts newer plans shelf view manifest live kept_is loaded so. load_held texts newer plans shelf view manifest (live_committed view.id (newer ++ older) live) kept_is loaded so;
     choose = λ texts newer plans shelf chosen ids so. choose_held texts newer plans shelf chosen ids so;
-    commit = λ rules texts newer plans shelf seq cs against stored legal counted chunks_are of so.
+    commit = λ rules texts newer plans shelf seq cs against stored legal counted chunks_are of loaded so.
         subst (λ (c : List (List ℕ)). HeldSo texts (made author (commit_point session seq stored) ∷ newer) (plan_for n streams (record { session = session; seq = seq }) against plans ∷ plans) (after_segment shelf (record { session = session; seq = seq }) c against (end_of session plans) n.room)) chunks_are
         (commit_held rules texts newer plans shelf seq against stored legal counted
         (subst (λ (c : List (List ℕ)). IsStoredOf c against (end_of session plans) n.room stored) (sym chunks_are) of) so);

@@ -5,6 +5,7 @@ pub mod BackupLaws
 pub mod KeptLaws
 pub mod LoadLaws
 pub mod GaveLaws
+pub mod LeftLaws
 pub mod StreamLaws
 pub mod RunLaws
 pub mod RecordedLaws
@@ -13,3 +14,4 @@ pub mod HeldLaws
 pub mod UnstartedLaws
 pub mod HeldBackupLaws
 pub mod CollisionLaws
+pub mod WholeLaws

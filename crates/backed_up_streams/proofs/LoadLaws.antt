@@ -2,6 +2,7 @@
 use Rattle.std.proofs.Common.{◌≡◌, ℕ, ◌==◌, ◌⊎◌, true, false, List, [], ◌∷◌, ◌++◌, length, Option, Some, refl, sym, ap, ◌∙◌, subst, inl, inr, arith, append_assoc, length-append}
 use Rattle.std.specs.List.{slice_index_or}
 use Rattle.std.specs.Option.{unwrap_or}
+use Rattle.std.proofs.lemmas.Bool.{and_parts}
 use Rattle.ss_base.specs.declared.ids.ManifestId.{ManifestId}
 use Rattle.ss_base.specs.declared.name.Name.{Name}
 use Rattle.ss_base.specs.declared.profile.Numbers.{Numbers}
@@ -20,9 +21,9 @@ use Rattle.journal_entry.specs.declared.entry.Point.{Point}
 use Rattle.journal_entry.specs.declared.entry.Point.TheVariants.{Begin, Choose, Commit, Finish, Abort}
 use Rattle.history.specs.declared.rules.Rules.{Rules}
 use Rattle.history.specs.Legal.{is_legal}
-use Rattle.history.specs.Need.{commits_manifest}
+use Rattle.history.specs.Need.{commits_manifest, is_live}
 use Rattle.history.specs.Sessions.{commits, commits_of, has, pending_champions, is_pending}
-use Rattle.history_laws.proofs.LiveLaws.{pending_committed}
+use Rattle.history_laws.proofs.LiveLaws.{pending_live}
 use Rattle.store_core.specs.declared.values.Stored.{Stored}
 use Rattle.store_core.specs.View.{KeptView, kept, all_kept, made}
 use Rattle.depot.specs.Loading.{IsLoaded}
@@ -36,6 +37,8 @@ use Rattle.stored_streams.specs.Loads.{Loads, loaded_after, loaded_plans, IsLoad
 use Rattle.stored_streams.proofs.CommittedLaws.{kept_older}
 use Rattle.backed_up_streams.proofs.ContentLaws.{self}
 use Rattle.backed_up_streams.proofs.GaveLaws.{GaveMore}
+use Rattle.backed_up_streams.proofs.LeftLaws.{HasPutSome, IsLeft}
+use Rattle.backed_up_streams.proofs.LeftLaws.IsLeft.{untouched, put_some}
 use Rattle.backed_up_streams.proofs.SegmentLaws.{item_behind, next_chunks}
 use Rattle.backed_up_streams.proofs.KeptLaws.{IsKept, kept_there, all_kept-first, end_newest, end_at_first}
 
@@ -50,6 +53,11 @@ abbrev pub commit_point : ℕ → ℕ → Stored → Point
 commit_point session seq stored =
     Commit (record { session = session; seq = seq }) stored.content stored.text stored.chunks stored.bytes stored.fresh stored.fresh_bytes stored.uses.items
 
+-- a live manifest is committed
+pub live_committed : (id : ManifestId) (past : List Entry) → is_live id past ≡ true → has (commits_manifest id) past ≡ true
+unfolding is_live
+live_committed id past live = (and_parts _ _ live).0
+
 module _ (n : Numbers) (streams : Streams) (older : List Entry) (author session : ℕ) (Told : List (List ℕ) → List Entry → List Planned → ShelfView → Type 0) (Allowed : List Entry → Type 0) where
   -- behind one load: the texts that reads gave are these or more, and the loaded one is among them or was planned
   pub record LoadTold (texts : List (List ℕ)) (newer : List Entry) (plans : List Planned) (shelf : ShelfView) (view : KeptView) (manifest : Manifest) : Type 0 where
@@ -62,7 +70,7 @@ module _ (n : Numbers) (streams : Streams) (older : List Entry) (author session 
   pub record IsTelling : Type 0 where
     pub before : (entry : Entry) (past : List Entry) → Allowed (entry ∷ past) → Allowed past
     pub load : (texts : List (List ℕ)) (newer : List Entry) (plans : List Planned) (shelf : ShelfView) (view : KeptView) (manifest : Manifest)
-        → has (commits_manifest view.id) (newer ++ older) ≡ true → kept view.id (newer ++ older) ≡ Some view → IsLoaded shelf (after_load shelf view manifest) view manifest
+        → is_live view.id (newer ++ older) ≡ true → kept view.id (newer ++ older) ≡ Some view → IsLoaded shelf (after_load shelf view manifest) view manifest
         → Told texts newer plans shelf → LoadTold texts newer plans shelf view manifest
     pub choose : (texts : List (List ℕ)) (newer : List Entry) (plans : List Planned) (shelf : ShelfView) (chosen : List Name) (ids : List ManifestId)
         → Told texts newer plans shelf → Told texts (made author (Choose session chosen ids) ∷ newer) plans shelf
@@ -70,6 +78,7 @@ module _ (n : Numbers) (streams : Streams) (older : List Entry) (author session 
         → is_legal rules (newer ++ older) ≡ true → commits_of session (newer ++ older) ≡ seq
         → manifest_chunks n streams (record { session = session; seq = seq }) ≡ chunks
         → IsStoredOf chunks against (end_of session plans) n.room stored
+        → (Allowed (newer ++ older) → AreLoadsOf n streams (λ b. In b texts) (newer ++ older) plans (pending_champions session (newer ++ older)) against)
         → Told texts newer plans shelf
         → Told texts (made author (commit_point session seq stored) ∷ newer) (plan_for n streams (record { session = session; seq = seq }) against plans ∷ plans)
         (after_segment shelf (record { session = session; seq = seq }) chunks against (end_of session plans) n.room)
@@ -97,25 +106,25 @@ module _ (n : Numbers) (streams : Streams) (older : List Entry) (author session 
     source_more gave all text P more (inr planned) = inr planned
 
     pub all_loads : (texts : List (List ℕ)) (newer : List Entry) (plans : List Planned) (shelf : ShelfView) (ids : List ManifestId) (manifests : List Manifest)
-        → ((id : ManifestId) → In id ids → has (commits_manifest id) (newer ++ older) ≡ true)
+        → ((id : ManifestId) → In id ids → is_live id (newer ++ older) ≡ true)
         → AreLoaded shelf (all_kept ids (newer ++ older)) manifests
         → Told texts newer plans shelf → LoadsTold texts newer plans (after_loads shelf (all_kept ids (newer ++ older)) manifests) ids manifests
-    all_loads texts newer plans shelf [] [] committed are told = record { gave = texts; older_too = λ b there. there; told = told; are = λ allowed all more. tt }
-    all_loads texts newer plans shelf [] (manifest ∷ manifests) committed are told = absurd are
-    all_loads texts newer plans shelf (id ∷ ids) [] committed are told =
+    all_loads texts newer plans shelf [] [] live are told = record { gave = texts; older_too = λ b there. there; told = told; are = λ allowed all more. tt }
+    all_loads texts newer plans shelf [] (manifest ∷ manifests) live are told = absurd are
+    all_loads texts newer plans shelf (id ∷ ids) [] live are told =
         let past = newer ++ older in
-        let is = kept_there id past (committed id (inl refl)) in
+        let is = kept_there id past (live_committed id past (live id (inl refl))) in
         let kepts = all_kept-first id ids past is.view is.kept_is in
         absurd (subst (λ (ks : List KeptView). AreLoaded shelf ks []) kepts are)
-    all_loads texts newer plans shelf (id ∷ ids) (manifest ∷ manifests) committed are told =
+    all_loads texts newer plans shelf (id ∷ ids) (manifest ∷ manifests) live are told =
         let past = newer ++ older in
-        let is = kept_there id past (committed id (inl refl)) in
+        let is = kept_there id past (live_committed id past (live id (inl refl))) in
         let kepts = all_kept-first id ids past is.view is.kept_is in
         let loaded = subst (λ (ks : List KeptView). AreLoaded shelf ks (manifest ∷ manifests)) kepts are in
-        let own_committed : has (commits_manifest is.view.id) past ≡ true = subst (λ (i : ManifestId). has (commits_manifest i) past ≡ true) (sym is.same) (committed id (inl refl)) in
+        let own_live : is_live is.view.id past ≡ true = subst (λ (i : ManifestId). is_live i past ≡ true) (sym is.same) (live id (inl refl)) in
         let own_kept : kept is.view.id past ≡ Some is.view = ap (λ (i : ManifestId). kept i past) is.same ∙ is.kept_is in
-        let one = telling.load texts newer plans shelf is.view manifest own_committed own_kept loaded.0 told in
-        let rest = all_loads one.gave newer plans (after_load shelf is.view manifest) ids manifests (λ i there. committed i (inr there)) loaded.1 one.told in
+        let one = telling.load texts newer plans shelf is.view manifest own_live own_kept loaded.0 told in
+        let rest = all_loads one.gave newer plans (after_load shelf is.view manifest) ids manifests (λ i there. live i (inr there)) loaded.1 one.told in
         record {
           gave = rest.gave;
           older_too = λ b there. rest.older_too b (one.older_too b there);
@@ -163,35 +172,40 @@ module _ (n : Numbers) (streams : Streams) (older : List Entry) (author session 
 
     -- ---- how a session ends
 
+    -- the last entry commits nothing, and behind the shelf of the commits something may be left
     pub record HasEnded (past : List Entry) (after : ShelfView) : Type 0 where
-      pub newer : List Entry
-      pub past_is : past ≡ newer ++ older
+      pub last : Entry
+      pub then_newer : List Entry
+      pub past_is : past ≡ last ∷ (then_newer ++ older)
+      pub commits_none : (id : ManifestId) → commits_manifest id last.point ≡ false
+      pub count : ℕ
+      pub counted : commits_of session (then_newer ++ older) ≡ count
       pub loads : Loads
       pub texts : List (List ℕ)
-      pub then_newer : List Entry
       pub then_plans : List Planned
       pub then_shelf : ShelfView
       pub told : Told texts then_newer then_plans then_shelf
       pub gave_more : GaveMore then_shelf after
-      pub kept_same : (id : ManifestId) → kept id (newer ++ older) ≡ kept id (then_newer ++ older)
-      pub allowed_then : Allowed (newer ++ older) → Allowed (then_newer ++ older)
-      pub stores : Allowed (newer ++ older) → (all : List (List ℕ)) → ((b : List ℕ) → In b texts → In b all) → StoresLoaded n streams loads (λ b. In b all) newer older
+      pub left : IsLeft n author session count last then_plans then_shelf after
+      pub stores : Allowed (last ∷ (then_newer ++ older)) → (all : List (List ℕ)) → ((b : List ℕ) → In b texts → In b all) → StoresLoaded n streams loads (λ b. In b all) (last ∷ then_newer) older
 
-    module _ (count : ℕ) (past : List Entry) (shelf : ShelfView) (end : ContainerEnd) (so : IsSoFar count past shelf end) (after : ShelfView) (gave : GaveMore shelf after) where
+    module _ (count : ℕ) (past : List Entry) (shelf : ShelfView) (end : ContainerEnd) (so : IsSoFar count past shelf end) (after : ShelfView) (gave : GaveMore shelf after) (held : after.held ≡ shelf.held) where
       -- with an end that has as many containers as are laid out
       ended : (point : Point) → ((id : ManifestId) → commits_manifest id point ≡ false) → ((all : List (List ℕ)) (plans : List Planned) → end_of session plans ≡ end → LoadedOf n streams (loads_of (so.lists ++ [])) (λ b. In b all) (so.newer ++ older) plans point) → HasEnded (made author point ∷ past) after
       ended point keeps says = record {
-        newer = made author point ∷ so.newer;
+        last = made author point;
+        then_newer = so.newer;
         past_is = ap (λ (p : List Entry). made author point ∷ p) so.past_is;
+        commits_none = keeps;
+        count = count;
+        counted = so.counted;
         loads = loads_of (so.lists ++ []);
         texts = so.texts;
-        then_newer = so.newer;
         then_plans = so.plans;
         then_shelf = shelf;
         told = so.told;
         gave_more = gave;
-        kept_same = λ id. kept_older id (made author point) (so.newer ++ older) (keeps id);
-        allowed_then = telling.before (made author point) (so.newer ++ older);
+        left = untouched held;
         stores = λ allowed all more.
             let plans = loaded_plans n streams (loads_of (so.lists ++ [])) so.newer older in
             (so.stores (telling.before (made author point) (so.newer ++ older) allowed) [] all more, says all plans (ap (end_of session) (so.plans_are []) ∙ so.end_is));
@@ -236,11 +250,11 @@ module _ (n : Numbers) (streams : Streams) (older : List Entry) (author session 
       abbrev against : List Located
       against = located manifests
 
-      champion_there : (id : ManifestId) → In id ids → has (commits_manifest id) before ≡ true
+      champion_there : (id : ManifestId) → In id ids → is_live id before ≡ true
       unfolding has_manifest
       champion_there id there =
-          subst (λ (p : List Entry). has (commits_manifest id) p ≡ true) so.past_is
-          (pending_committed rules session id past legal
+          subst (λ (p : List Entry). is_live id p ≡ true) so.past_is
+          (pending_live rules session id past legal
           (subst (λ (all : List ManifestId). has_manifest id all ≡ true) (sym pending_are) (in_any (same_manifest id) id ids there (same_manifest-self id))))
 
       loads_now : LoadsTold so.texts so.newer so.plans (after_loads shelf (all_kept ids before) manifests) ids manifests
@@ -265,6 +279,11 @@ module _ (n : Numbers) (streams : Streams) (older : List Entry) (author session 
           subst (λ (ps : List Planned). AreLoadsOf n streams (λ b. In b all) before ps (pending_champions session before) (loads_of (so.lists ++ against ∷ tail) next)) (sym same)
           (subst (λ (cs : List ManifestId). AreLoadsOf n streams (λ b. In b all) before so.plans cs (loads_of (so.lists ++ against ∷ tail) next)) (sym ids_now)
           (subst (λ (ls : List Located). AreLoadsOf n streams (λ b. In b all) before so.plans ids ls) (sym (list_now tail)) (loads_now.are allowed all more)))
+
+      loads_for : Allowed before → AreLoadsOf n streams (λ b. In b loads_now.gave) before so.plans (pending_champions session before) against
+      loads_for allowed =
+          subst (λ (cs : List ManifestId). AreLoadsOf n streams (λ b. In b loads_now.gave) before so.plans cs against) (sym ids_now)
+          (loads_now.are allowed loads_now.gave (λ b there. there))
 
       end_laid : (plan_for n streams next against so.plans).end ≡ end_against chunks against end n.room
       unfolding plan_for
@@ -295,20 +314,26 @@ module _ (n : Numbers) (streams : Streams) (older : List Entry) (author session 
             subst (λ (id : ManifestId). (end_against chunks against end n.room).containers ≡ (plan_for n streams id (loads id) plans).end.containers) (sym is_next) (laid_said tail plans same),
           )
 
-      pub given_up_pending : (after : ShelfView) (written : ℕ) → is_pending session past ≡ true → GaveMore (after_loads shelf (all_kept ids past) manifests) after → HasEnded (give_up written ∷ past) after
+      pub given_up_pending : (after : ShelfView) (written : ℕ) → is_pending session past ≡ true → GaveMore (after_loads shelf (all_kept ids past) manifests) after
+          → HasPutSome next chunks against end n.room (after_loads shelf (all_kept ids past) manifests) after → HasEnded (give_up written ∷ past) after
       unfolding commits_manifest
-      given_up_pending after written waits gave = record {
-        newer = give_up written ∷ so.newer;
+      given_up_pending after written waits gave some = record {
+        last = give_up written;
+        then_newer = so.newer;
         past_is = ap (λ (p : List Entry). give_up written ∷ p) so.past_is;
+        commits_none = λ id. refl;
+        count = length front;
+        counted = so.counted;
         loads = loads_of (so.lists ++ against ∷ []);
         texts = loads_now.gave;
-        then_newer = so.newer;
         then_plans = so.plans;
         then_shelf = after_loads shelf (all_kept ids before) manifests;
         told = loads_now.told;
         gave_more = subst (λ (p : List Entry). GaveMore (after_loads shelf (all_kept ids p) manifests) after) so.past_is gave;
-        kept_same = λ id. kept_older id (give_up written) before refl;
-        allowed_then = telling.before (give_up written) before;
+        left =
+            put_some chunks against written (ap (λ (e : ContainerEnd). made author (Abort session (end_against chunks against e n.room).containers written)) (sym so.end_is))
+            (subst (λ (e : ContainerEnd). HasPutSome next chunks against e n.room (after_loads shelf (all_kept ids before) manifests) after) (sym so.end_is)
+            (subst (λ (p : List Entry). HasPutSome next chunks against end n.room (after_loads shelf (all_kept ids p) manifests) after) so.past_is some));
         stores = λ allowed all more.
             let older_allowed = telling.before (give_up written) before allowed in
             let plans = loaded_plans n streams (loads_of (so.lists ++ against ∷ [])) so.newer older in
@@ -354,7 +379,7 @@ module _ (n : Numbers) (streams : Streams) (older : List Entry) (author session 
             let lists_longer = length-append so.lists (against ∷ []) in
             let told =
             telling.commit rules loads_now.gave so.newer so.plans (after_loads shelf (all_kept ids before) manifests) (length front) chunks against stored
-            (subst (λ (p : List Entry). is_legal rules p ≡ true) so.past_is legal) so.counted the_chunks of_plans loads_now.told in
+            (subst (λ (p : List Entry). is_legal rules p ≡ true) so.past_is legal) so.counted the_chunks of_plans loads_for loads_now.told in
             record {
               newer = commit_it ∷ so.newer;
               past_is = ap (λ (p : List Entry). commit_it ∷ p) so.past_is;

@@ -70,9 +70,9 @@ module _ (n : Numbers) (streams : Streams) (older : List Entry) (author session 
   is_telling : IsTelling n streams older author session Gave (λ past. Unit {0})
   is_telling = record {
     before = λ entry past allowed. tt;
-    load = λ texts newer plans shelf view manifest committed kept_is loaded so. load_gave texts newer plans shelf view manifest so;
+    load = λ texts newer plans shelf view manifest live kept_is loaded so. load_gave texts newer plans shelf view manifest so;
     choose = λ texts newer plans shelf chosen ids so. record { reads = so.reads; texts_are = so.texts_are; gave = so.gave };
-    commit = λ rules texts newer plans shelf seq chunks against stored legal counted chunks_are of so. record {
+    commit = λ rules texts newer plans shelf seq chunks against stored legal counted chunks_are of loaded so. record {
       reads = so.reads;
       texts_are = so.texts_are;
       gave = segment_gave shelf (record { session = session; seq = seq }) chunks against (end_of session plans) n.room ∙ so.gave;
@@ -100,11 +100,11 @@ module _ (n : Numbers) (streams : Streams) (older : List Entry) (author session 
         reads = reads;
         more = is.gave_more.gave ∙ ap (λ (told : Option (List Given)). with_more told last) is.told.gave ∙ more_then depot.gave first last;
         loaded = record {
-          newer = is.newer;
+          newer = is.last ∷ is.then_newer;
           past_is = is.past_is;
           loads = is.loads;
           stores =
-              stores_weaker (λ b. In b (bytes_given reads)) (IsGiven (recorded reads ∷ []) past) (λ b h. inl (contains_from_in b (bytes_given reads) h)) n streams is.loads is.newer older
+              stores_weaker (λ b. In b (bytes_given reads)) (IsGiven (recorded reads ∷ []) past) (λ b h. inl (contains_from_in b (bytes_given reads) h)) n streams is.loads (is.last ∷ is.then_newer) older
               (is.stores tt (bytes_given reads) there);
         };
       }

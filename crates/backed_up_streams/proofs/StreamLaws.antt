@@ -37,6 +37,8 @@ use Rattle.stored_streams.specs.Plans.{Planned}
 use Rattle.backed_up_streams.proofs.AloneLaws.{alone, open_at, chosen_at, is_open_at, is_chosen_at, chose, committed, not_chosen, not_committed, finished, aborted, aborted_chosen, legal_chosen}
 use Rattle.backed_up_streams.proofs.KeptLaws.{all_kept_behind, champions_behind, waits_behind}
 use Rattle.backed_up_streams.proofs.GaveLaws.{GaveMore, gave_same, gave_then, loads_gave, stopped_loads-gave, stopped_puts-gave, puts_gave, segment_gave}
+use Rattle.backed_up_streams.proofs.LeftLaws.{loads_held, stopped_loads-held, HasPutSome}
+use Rattle.backed_up_streams.proofs.LeftLaws.HasPutSome.{stopped, unwritten, all_done}
 use Rattle.backed_up_streams.proofs.LoadLaws.{commit_point, IsTelling, IsSoFar, HasEnded, chosen_so_far, committed_so_far, finished_so, given_up_so, given_up_pending}
 
 module _ (n : Numbers) (streams : Streams) (older : List Entry) (author session : ℕ) (Told : List (List ℕ) → List Entry → List Planned → ShelfView → Type 0) (Allowed : List Entry → Type 0) (telling : IsTelling n streams older author session Told Allowed) (standings champions : ℕ) where
@@ -137,41 +139,49 @@ module _ (n : Numbers) (streams : Streams) (older : List Entry) (author session 
 
       module _ (legal : is_legal (rules_of standings champions chosen.seen) the_past ≡ true) (written : ℕ) where
         -- with the containers as before
-        same-ends : (last : Progress) → last.end ≡ progress.end → GaveMore progress.shelf last.shelf → Ended (made author (Abort session last.end.containers written) ∷ the_past) last.shelf
-        same-ends last end_is gave =
+        same-ends : (last : Progress) → last.end ≡ progress.end → GaveMore progress.shelf last.shelf → last.shelf.held ≡ progress.shelf.held → Ended (made author (Abort session last.end.containers written) ∷ the_past) last.shelf
+        same-ends last end_is gave held =
             subst (λ (e : ContainerEnd). Ended (made author (Abort session e.containers written) ∷ the_past) last.shelf) (sym end_is)
-            (given_up_so n streams older author session Told Allowed telling (length front) the_past progress.shelf progress.end at.so last.shelf gave written)
+            (given_up_so n streams older author session Told Allowed telling (length front) the_past progress.shelf progress.end at.so last.shelf gave held written)
 
         -- or with those of the segment too
         laid-ends : (last : Progress) (manifests : List Manifest) → AreLoaded progress.shelf chosen.choice.champions.items manifests → last.end ≡ end_against chunks (located manifests) progress.end room
-            → GaveMore (after_loads progress.shelf chosen.choice.champions.items manifests) last.shelf → Ended (made author (Abort session last.end.containers written) ∷ the_past) last.shelf
-        laid-ends last manifests loaded end_is gave =
+            → GaveMore (after_loads progress.shelf chosen.choice.champions.items manifests) last.shelf
+            → HasPutSome chosen.choice.manifest chunks (located manifests) progress.end room (after_loads progress.shelf chosen.choice.champions.items manifests) last.shelf → Ended (made author (Abort session last.end.containers written) ∷ the_past) last.shelf
+        laid-ends last manifests loaded end_is gave some =
             subst (λ (e : ContainerEnd). Ended (made author (Abort session e.containers written) ∷ the_past) last.shelf) (sym (end_is ∙ ap (λ (r : ℕ). end_against chunks (located manifests) progress.end r) room_is))
             (given_up_pending n streams older author session Told Allowed telling front rest chunks are (rules_of standings champions chosen.seen) the_past legal progress.shelf progress.end at.so at.ids at.pending_are manifests (loaded_kept manifests loaded)
-            last.shelf written at.waits (subst (λ (s : ShelfView). GaveMore s last.shelf) (shelf_kept manifests) gave))
+            last.shelf written at.waits (subst (λ (s : ShelfView). GaveMore s last.shelf) (shelf_kept manifests) gave)
+            (subst (λ (id : ManifestId). HasPutSome id chunks (located manifests) progress.end n.room (after_loads progress.shelf the_kept manifests) last.shelf) at.manifest
+            (subst (λ (r : ℕ). HasPutSome chosen.choice.manifest chunks (located manifests) progress.end r (after_loads progress.shelf the_kept manifests) last.shelf) room_is
+            (subst (λ (s : ShelfView). HasPutSome chosen.choice.manifest chunks (located manifests) progress.end room s last.shelf) (shelf_kept manifests) some))))
 
         unstored-ends : (last : Progress) (fault : BackupFault) → NotStoredFor chunks chosen.choice room progress last fault → Ended (made author (Abort session last.end.containers written) ∷ the_past) last.shelf
-        unstored-ends last fault (not_tried is same) = same-ends last (ap (λ (p : Progress). p.end) same) (gave_same progress.shelf last.shelf (ap (λ (p : Progress). p.shelf.gave) same))
-        unstored-ends last fault (not_loaded cause is same failed) = same-ends last (ap (λ (p : Progress). p.end) same) (stopped_loads-gave progress.shelf last.shelf chosen.choice.champions.items cause failed)
+        unstored-ends last fault (not_tried is same) = same-ends last (ap (λ (p : Progress). p.end) same) (gave_same progress.shelf last.shelf (ap (λ (p : Progress). p.shelf.gave) same)) (ap (λ (p : Progress). p.shelf.held) same)
+        unstored-ends last fault (not_loaded cause is same failed) = same-ends last (ap (λ (p : Progress). p.end) same) (stopped_loads-gave progress.shelf last.shelf chosen.choice.champions.items cause failed) (stopped_loads-held progress.shelf last.shelf chosen.choice.champions.items cause failed)
         unstored-ends last fault (not_stored manifests cause is loaded (not_planned is_memory same)) =
             let between = after_loads progress.shelf chosen.choice.champions.items manifests in
             same-ends last (ap (λ (p : Progress). p.end) same)
             (gave_then progress.shelf between last.shelf (loads_gave progress.shelf chosen.choice.champions.items manifests) (gave_same between last.shelf (ap (λ (p : Progress). p.shelf.gave) same)))
+            (ap (λ (p : Progress). p.shelf.held) same ∙ loads_held progress.shelf chosen.choice.champions.items manifests)
         unstored-ends last fault (not_stored manifests cause is loaded (put_failed end_is texts_are failed)) =
             let between = after_loads progress.shelf chosen.choice.champions.items manifests in
             laid-ends last manifests loaded end_is
             (gave_same between last.shelf (stopped_puts-gave between last.shelf (puts_against chunks (located manifests) progress.end room) cause failed))
+            (stopped cause failed)
         unstored-ends last fault (not_stored manifests cause is loaded (write_failed end_is texts_are failed)) =
             let between = after_loads progress.shelf chosen.choice.champions.items manifests in
             let puts = puts_against chunks (located manifests) progress.end room in
             laid-ends last manifests loaded end_is
             (gave_same between last.shelf (ap (λ (s : ShelfView). s.gave) failed.others ∙ puts_gave between puts))
+            (unwritten cause failed)
 
         uncommitted-ends : (last : Progress) (stored : Stored) (written_view : WrittenView) → IsStoredFor chunks chosen.choice room progress last stored written_view → Ended (made author (Abort session last.end.containers written) ∷ the_past) last.shelf
         uncommitted-ends last stored written_view stores =
             let between = after_loads progress.shelf chosen.choice.champions.items stores.manifests in
             laid-ends last stores.manifests stores.loaded stores.stored_is.end
             (gave_same between last.shelf (ap (λ (s : ShelfView). s.gave) stores.stored_is.shelf ∙ segment_gave between chosen.choice.manifest chunks (located stores.manifests) progress.end room))
+            (all_done stores.stored_is.shelf)
 
       chosen-ended : (after : IdleView) (shelf : ShelfView) (fault : BackupFault) → HasGivenUpChosen alone standings champions chunks room chosen progress after shelf fault → Ended (past_of after.seen) shelf
       chosen-ended after shelf fault (unstored last same not gives) =
@@ -204,7 +214,7 @@ module _ (n : Numbers) (streams : Streams) (older : List Entry) (author session 
         let added = aborted standings champions author the_seen session before.progress.end.containers before.progress.texts after is in
         subst (λ (p : List Entry). Ended p shelf) (sym added.past)
         (given_up_so n streams older author session Told Allowed telling count (past_of the_seen) before.progress.shelf before.progress.end at.so shelf
-        (gave_same before.progress.shelf shelf (ap (λ (s : ShelfView). s.gave) same)) before.progress.texts)
+        (gave_same before.progress.shelf shelf (ap (λ (s : ShelfView). s.gave) same)) (ap (λ (s : ShelfView). s.held) same) before.progress.texts)
 
     pub finish-ended : (shelf : ShelfView) → shelf ≡ before.progress.shelf → HasFinished alone standings champions before.caller before.progress.end.containers after → Ended (past_of after.seen) shelf
     finish-ended shelf same gives =
@@ -212,7 +222,7 @@ module _ (n : Numbers) (streams : Streams) (older : List Entry) (author session 
         let added = finished standings champions author the_seen session before.progress.end.containers after is in
         subst (λ (p : List Entry). Ended p shelf) (sym added.past)
         (finished_so n streams older author session Told Allowed telling count (past_of the_seen) before.progress.shelf before.progress.end at.so shelf
-        (gave_same before.progress.shelf shelf (ap (λ (s : ShelfView). s.gave) same)))
+        (gave_same before.progress.shelf shelf (ap (λ (s : ShelfView). s.gave) same)) (ap (λ (s : ShelfView). s.held) same))
 
   -- ---- one segment
 

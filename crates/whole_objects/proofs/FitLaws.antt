@@ -12,7 +12,7 @@ use Rattle.ss_base.specs.declared.profile.Numbers.{Numbers}
 use Rattle.ss_base.specs.Ids.{same_container, has_container}
 use Rattle.ss_base.specs.Origins.{fresh_behind, fresh_marks}
 use Rattle.ss_base.proofs.IdLaws.{same_manifest-true, same_container-true}
-use Rattle.ss_base.proofs.MemberLaws.{In, any_in, in_Contains}
+use Rattle.ss_base.proofs.MemberLaws.{In, any_in, in_Contains, count_one, count_other}
 use Rattle.chunk_name.specs.Pieces.{piece, pieces}
 use Rattle.manifest_codec.specs.Containers.{AreContainers}
 use Rattle.container_file.specs.declared.container_end.ContainerEnd.{ContainerEnd}
@@ -28,7 +28,10 @@ use Rattle.journal_entry.specs.declared.entry.Point.{Point}
 use Rattle.journal_entry.specs.declared.entry.Point.TheVariants.{Begin, Commit}
 use Rattle.journal_entry.specs.Bounds.{FitsContainer, FitsManifest, PointFits, IsEntry}
 use Rattle.history.specs.Need.{commits_manifest, uses_live, is_needed}
-use Rattle.history.specs.Sessions.{session_begun, begins, has, is_unfinished, pending_champions}
+use Rattle.history.specs.declared.rules.Rules.{Rules}
+use Rattle.history.specs.Legal.{is_allowed, is_legal}
+use Rattle.history.specs.Sessions.{session_begun, begins, has, is_unfinished, pending_champions, commits, commits_of}
+use Rattle.history_laws.proofs.Allowed.{IsStep, step as step_of, commit_says}
 use Rattle.history_laws.proofs.SessionLaws.{has_cases, has_none}
 use Rattle.stored_streams.specs.Streams.{Streams, manifest_chunks}
 use Rattle.stored_streams.specs.Plans.{Planned, located_of, last_plan, end_of, plan_for, next_plan, plans_after, plans_of}
@@ -169,3 +172,35 @@ containers_few n streams [] entries stored session = omega arith
 containers_few n streams (entry ∷ past) entries stored session =
     let is : IsEntry entry = All-head IsEntry entry past entries in
     few_after n streams past entry.point (plans_of n streams past) refl is.point stored.1 (λ s. containers_few n streams past (All-tail IsEntry entry past entries) stored.0 s) session
+
+-- ---- the commits of a session
+
+commit_one : (rules : Rules) (session : ℕ) (entry : Entry) (past : List Entry) → IsStep rules entry past → IsEntry entry → commits session entry.point ≡ true → commits_of session past < 2 ^ 32
+unfolding commits
+commit_one rules session entry past now is does = by_point entry.point is.point now.allowed does
+  where
+    by_point : (point : Point) → PointFits point → is_allowed rules past entry.author point ≡ true → commits session point ≡ true → commits_of session past < 2 ^ 32
+    by_point (Commit id content text chunks bytes fresh fresh_bytes uses) fits allowed does =
+        let said = commit_says rules past entry.author id content text chunks bytes fresh fresh_bytes uses allowed in
+        let seq = (fits.0).1 in
+        let is_next = said.next in
+        let own = eqb-true session id.session does in
+        subst (λ (s : ℕ). commits_of s past < 2 ^ 32) (sym own) (subst (λ (q : ℕ). q < 2 ^ 32) is_next seq)
+    by_point _ fits allowed does = absurd (false≢true does)
+
+-- they have numbers, each its own
+pub commits_few : (rules : Rules) (session : ℕ) (past : List Entry) → is_legal rules past ≡ true → All IsEntry past → commits_of session past ≤ 2 ^ 32
+unfolding commits_of
+commits_few rules session [] legal entries = omega arith
+commits_few rules session (entry ∷ past) legal entries =
+    let now = step_of rules entry past legal in
+    elim (cases_Bool (commits session entry.point)) [
+      | inl here ↦
+          let one = count_one (λ (e : Entry). commits session e.point) entry past here in
+          let low = commit_one rules session entry past now (All-head IsEntry entry past entries) here in
+          omega (arith, one, low)
+      | inr other ↦
+          let same = count_other (λ (e : Entry). commits session e.point) entry past other in
+          let few = commits_few rules session past now.legal (All-tail IsEntry entry past entries) in
+          omega (arith, same, few)
+    ]

@@ -36,7 +36,7 @@ pub names_apart : (one other : ContainerId) → FitsContainer one → FitsContai
 unfolding id_of
 names_apart one other fits fits_too differ same = differ (ap id_of (same_object_text (Container one) (Container other) fits fits_too same))
 
-manifest_apart : (id : ManifestId) (other : ContainerId) → object_text (Manifest id) ≢ object_text (Container other)
+pub manifest_apart : (id : ManifestId) (other : ContainerId) → object_text (Manifest id) ≢ object_text (Container other)
 manifest_apart id other same = let first : 109 ≡ 99 = ap (λ (l : List ℕ). get_or l 0 0) same in omega (arith, first)
 
 -- ---- one object is changed, a container of the session
@@ -127,6 +127,11 @@ has_put shelf objects put is = elim (cases_Bool put.starts) [
     others = λ q differ. bytes_of-insert_other objects (put_name put) (bytes_of objects (put_name put) ++ put.bytes) q differ;
   }
 ]
+
+-- puts over told objects leave told objects
+pub puts_told : (shelf : ShelfView) (objects : Objects) (puts : List PutBytes) → shelf.held ≡ Some objects → (now : Objects) × ((after_puts shelf puts).held ≡ Some now)
+puts_told shelf objects [] is = (objects, is)
+puts_told shelf objects (put ∷ puts) is = let one = has_put shelf objects put is in puts_told (after_put shelf put) one.now puts one.held_is
 
 -- the put's container is the session's
 name_is : (session : ℕ) (put : PutBytes) → put.container.session ≡ session → put_name put ≡ container_name session put.container.ordinal

@@ -1,0 +1,59 @@
+-- What the end of a session leaves of its depot.
+use Rattle.std.proofs.Common.{◌≡◌, ℕ, ◌*◌, List, [], ◌∷◌, Err, refl, ap, ◌∙◌, inl, inr}
+use Rattle.ss_base.specs.declared.ids.ManifestId.{ManifestId}
+use Rattle.ss_base.specs.declared.object.Object.TheVariants.{Manifest as ManifestObject}
+use Rattle.ss_base.specs.declared.profile.Numbers.{Numbers}
+use Rattle.ss_base.specs.ObjectName.{object_text}
+use Rattle.manifest_codec.specs.declared.manifest.Manifest.{Manifest}
+use Rattle.container_file.specs.declared.container_end.ContainerEnd.{ContainerEnd}
+use Rattle.segment_plan.specs.Plan.{Located, end_against, puts_against}
+use Rattle.outside.specs.Shelf.{CreateLeaves}
+use Rattle.outside.specs.Views.{ShelfView}
+use Rattle.outside.specs.declared.trouble.Trouble.{Trouble}
+use Rattle.journal_entry.specs.declared.entry.Entry.{Entry}
+use Rattle.journal_entry.specs.declared.entry.Point.TheVariants.{Abort}
+use Rattle.store_core.specs.View.{KeptView, made}
+use Rattle.depot.specs.declared.fault.LoadFault.{LoadFault}
+use Rattle.depot.specs.declared.fault.LoadFault.TheVariants.{Shelf, Damaged, Unlike, Memory}
+use Rattle.depot.specs.Calls.{HasFailed}
+use Rattle.depot.specs.Loading.{LoadAnswer}
+use Rattle.depot.specs.Storing.{after_puts}
+use Rattle.depot.specs.Storing.{IsStopped as IsPutStopped}
+use Rattle.segment_store.specs.Loads.{after_load, after_loads, IsStopped}
+use Rattle.segment_store.specs.Stored.{text_against, after_segment}
+use Rattle.stored_streams.specs.Plans.{Planned, end_of}
+
+-- ---- loads change no object
+
+pub loads_held : (shelf : ShelfView) (kepts : List KeptView) (manifests : List Manifest) → (after_loads shelf kepts manifests).held ≡ shelf.held
+loads_held shelf [] manifests = refl
+loads_held shelf (kept ∷ kepts) [] = refl
+loads_held shelf (kept ∷ kepts) (manifest ∷ manifests) = loads_held (after_load shelf kept manifest) kepts manifests
+
+failed_load-held : (before after : ShelfView) (kept : KeptView) (fault : LoadFault) → LoadAnswer before after kept (Err fault) → after.held ≡ before.held
+failed_load-held before after kept Shelf has = ap (λ (s : ShelfView). s.held) has.call
+failed_load-held before after kept (Damaged want got) has = ap (λ (s : ShelfView). s.held) has.given.call
+failed_load-held before after kept (Unlike text) has = ap (λ (s : ShelfView). s.held) has.given.call
+failed_load-held before after kept Memory (inl (inl same)) = ap (λ (s : ShelfView). s.held) same
+failed_load-held before after kept Memory (inl (inr same)) = ap (λ (s : ShelfView). s.held) same
+failed_load-held before after kept Memory (inr (given, has)) = ap (λ (s : ShelfView). s.held) has.call
+
+pub stopped_loads-held : (before after : ShelfView) (kepts : List KeptView) (fault : LoadFault) → IsStopped before after kepts fault → after.held ≡ before.held
+stopped_loads-held before after kepts fault is =
+    failed_load-held (after_loads before is.done is.manifests) after is.kept fault is.failed ∙ loads_held before is.done is.manifests
+
+-- ---- a segment that was not committed
+
+-- its puts and the write of its manifest: one of them failed, or all are done
+pub data HasPutSome (id : ManifestId) (chunks : List (List ℕ)) (against : List Located) (end : ContainerEnd) (room : ℕ) (before after : ShelfView) : Type 0 where
+  stopped : (trouble : Trouble) → IsPutStopped before after (puts_against chunks against end room) trouble → HasPutSome id chunks against end room before after
+  unwritten : (trouble : Trouble) → HasFailed (λ old new. CreateLeaves old new (object_text (ManifestObject id)) (text_against chunks against end room)) (after_puts before (puts_against chunks against end room)) after trouble → HasPutSome id chunks against end room before after
+  all_done : after ≡ after_segment before id chunks against end room → HasPutSome id chunks against end room before after
+
+-- Behind the session's commits, of which there are so many, nothing was changed; or something of one more segment was
+-- put, and the session was given up with that one laid out.
+pub data IsLeft (n : Numbers) (author session count : ℕ) (last : Entry) (plans : List Planned) (before after : ShelfView) : Type 0 where
+  untouched : after.held ≡ before.held → IsLeft n author session count last plans before after
+  put_some : (chunks : List (List ℕ)) (against : List Located) (written : ℕ)
+      → last ≡ made author (Abort session (end_against chunks against (end_of session plans) n.room).containers written)
+      → HasPutSome (record { session = session; seq = count }) chunks against (end_of session plans) n.room before after → IsLeft n author session count last plans before after
