@@ -15,3 +15,4 @@ pub mod UnstartedLaws
 pub mod HeldBackupLaws
 pub mod CollisionLaws
 pub mod WholeLaws
+pub mod WholeBackupLaws

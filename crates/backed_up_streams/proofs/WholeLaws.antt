@@ -16,6 +16,7 @@ use Rattle.ss_base.specs.declared.object.Object.TheVariants.{Container, Manifest
 use Rattle.ss_base.specs.declared.profile.Numbers.{Numbers}
 use Rattle.ss_base.specs.ObjectName.{object_text}
 use Rattle.ss_base.specs.Profile.{AreSound}
+use Rattle.ss_base.proofs.MemberLaws.{In}
 use Rattle.manifest_codec.specs.declared.manifest.Manifest.{Manifest}
 use Rattle.manifest_codec.specs.Text.{manifest_text}
 use Rattle.manifest_codec.proofs.TextLaws.{length-manifest_text}
@@ -156,3 +157,214 @@ module _ (n : Numbers) (sound : AreSound n) (rules : Rules) (streams : Streams) 
       held_is = so.held_is;
       facts = λ allowed. choose_facts (newer ++ older) plans so.now chosen ids allowed (so.facts (allowed_before (made author (Choose session chosen ids)) (newer ++ older) allowed));
     }
+
+    -- ---- a commit
+
+    module _ (keeps : (past : List Entry) (objects now : Objects) → is_legal rules past ≡ true → All IsEntry past → IsOfStreams n streams past → IsWhole n streams past objects → KeepsWanted n streams past objects now → IsWhole n streams past now)
+        (commits : (id : ManifestId) (content text : Name) (chunks bytes fresh fresh_bytes : ℕ) (uses : List ContainerId) (past : List Entry) (objects : Objects)
+        → let entry = made author (Commit id content text chunks bytes fresh fresh_bytes uses) in
+        is_legal rules (entry ∷ past) ≡ true → All IsEntry (entry ∷ past) → IsOfStreams n streams (entry ∷ past) → IsWhole n streams past objects
+        → bytes_of objects (object_text (ManifestObject id)) ≡ text_of n streams id (entry ∷ past)
+        → ((ordinal : ℕ) → ordinal < containers_of n streams id.session (entry ∷ past) → HasRecords n streams (entry ∷ past) objects (record { session = id.session; ordinal = ordinal }))
+        → IsWhole n streams (entry ∷ past) objects) where
+      module _ (past : List Entry) (seq : ℕ) (stored : Stored) (counted : commits_of session past ≡ seq) (allowed : IsAllowed (made author (commit_point session seq stored) ∷ past)) (now : Objects) (shelf : ShelfView) (held : shelf.held ≡ Some now) (facts : Facts past (plans_of n streams past) now) where
+        abbrev entry : Entry
+        entry = made author (commit_point session seq stored)
+
+        abbrev next : ManifestId
+        next = record { session = session; seq = seq }
+
+        abbrev plans : List Planned
+        plans = plans_of n streams past
+
+        abbrev chunks : List (List ℕ)
+        chunks = manifest_chunks n streams next
+
+        abbrev against : List Located
+        against = located_of n streams (pending_champions session past) plans
+
+        abbrev end : ContainerEnd
+        end = end_of session plans
+
+        abbrev plan : Planned
+        plan = next_plan n streams past next plans
+
+        is_before : IsAllowed past
+        is_before = allowed_before entry past allowed
+
+        next_fits : FitsManifest next
+        next_fits = (All-head IsEntry entry past allowed.entries).point.0
+
+        next_plans : plans_of n streams (entry ∷ past) ≡ plan ∷ plans
+        unfolding plans_of plans_after
+        next_plans = refl
+
+        plan_end : end_of session (plan ∷ plans) ≡ end_against chunks against end n.room
+        unfolding next_plan plan_for
+        plan_end = end_own plan session plans (self session)
+
+        plan_laid : laid_of session (plan ∷ plans) ≡ laid_of session plans ++ laid_against chunks against end n.room
+        unfolding next_plan plan_for
+        plan_laid = laid_own plan session plans (self session)
+
+        plan_places : planned_places next (plan ∷ plans) ≡ places_against chunks against end n.room
+        unfolding next_plan plan_for
+        plan_places = places_newest next plan plans refl
+
+        module _ (of : IsStoredOf chunks against end n.room stored) (told : Objects) (told_is : (after_puts shelf (puts_against chunks against end n.room)).held ≡ Some told) where
+          abbrev text : List ℕ
+          text = text_against chunks against end n.room
+
+          abbrev later : Objects
+          later = map_of.insert told (manifest_name next) text
+
+          stores_it : StoresSegment n streams next against plans stored.text stored.fresh stored.fresh_bytes stored.uses.items
+          unfolding plan_for manifest_pieces
+          stores_it = record { fresh_count = of.fresh_count; fresh_sum = of.fresh_len; containers = of.uses; digest = of.text }
+
+          then_of : IsOfStreams n streams (entry ∷ past)
+          then_of = record {
+            contents = allowed.contents;
+            stored = record { stored = (facts.of_streams.stored.stored, stores_it); ends = (facts.of_streams.stored.ends, tt) };
+          }
+
+          few : (end_against chunks against end n.room).containers ≤ 2 ^ 32
+          few =
+              subst (λ (e : ContainerEnd). e.containers ≤ 2 ^ 32) plan_end
+              (subst (λ (ps : List Planned). (end_of session ps).containers ≤ 2 ^ 32) next_plans (containers_few n streams (entry ∷ past) allowed.entries then_of.stored.stored session))
+
+          put : ArePut n streams session past chunks against now told
+          put =
+              let (there, there_is, is) = put-laid n streams session past chunks against shelf now next_fits.0 few held facts.hold in
+              subst (λ (o : Option Objects). ArePut n streams session past chunks against now (unwrap_or o told)) (sym there_is ∙ told_is) is
+
+          -- the manifest's name is new, and no container's
+          not_next : (id : ManifestId) → is_live id past ≡ true → manifest_name id ≢ manifest_name next
+          not_next id live =
+              let committed = live_committed id past live in
+              manifests_apart id next (committed_fits id past is_before.entries committed) next_fits
+              (λ same. let below = committed_below rules id past is_before.legal committed in
+                  let own = ap (λ (i : ManifestId). commits_of i.session past) same in
+                  let last = ap (λ (i : ManifestId). i.seq) same in
+                  absurd (omega (arith, below, own, last, counted)))
+
+          container_same : (id : ContainerId) → bytes_of later (object_text (Container id)) ≡ bytes_of told (object_text (Container id))
+          container_same id = bytes_of-insert_other told (manifest_name next) text (object_text (Container id)) (λ same. manifest_apart next id (sym same))
+
+          container_kept : (id : ContainerId) → is_needed id past ≡ true → id.ordinal < containers_of n streams id.session past → GoesOn (bytes_of now (object_text (Container id))) (bytes_of later (object_text (Container id)))
+          unfolding containers_of
+          container_kept id needed below = elim (eqb_tells id.session session) [
+            | inl (tested, own) ↦
+                let grown = put.grown id.ordinal (subst (λ (s : ℕ). id.ordinal < containers_of n streams s past) own below) in
+                (
+                  grown.0,
+                  container_same id
+                      ∙ subst (λ (s : ℕ). bytes_of told (container_name s id.ordinal) ≡ bytes_of now (container_name s id.ordinal) ++ grown.0) (sym own) grown.1,
+                )
+            | inr (tested, differ) ↦ (
+              [],
+              container_same id ∙ put.others.containers id (needed_low id past is_before.entries needed) differ ∙ sym (append-nil (bytes_of now (object_text (Container id)))),
+            )
+          ]
+
+          wanted : KeepsWanted n streams past now later
+          wanted = record {
+            containers = container_kept;
+            manifests = λ id live. bytes_of-insert_other told (manifest_name next) text (manifest_name id) (not_next id live) ∙ put.others.manifests id;
+          }
+
+          whole_before : IsWhole n streams past later
+          whole_before = keeps past now later is_before.legal is_before.entries facts.of_streams facts.whole wanted
+
+          text_there : bytes_of later (manifest_name next) ≡ text_of n streams next (entry ∷ past)
+          unfolding text_of manifest_pieces
+          text_there =
+              bytes_of-insert_same told (manifest_name next) text
+              ∙ ap (λ (ps : List Place). manifest_text (manifest_pieces n streams next) ps) (sym plan_places)
+              ∙ ap (λ (ps : List Planned). manifest_text (manifest_pieces n streams next) (planned_places next ps)) (sym next_plans)
+
+          hold_then : HoldRecords session (end_of session (plan ∷ plans)).containers (laid_of session (plan ∷ plans)) later
+          hold_then ordinal below =
+              let id : ContainerId = record { session = session; ordinal = ordinal } in
+              container_same id
+              ∙ put.records ordinal (subst (λ (e : ContainerEnd). ordinal < e.containers) plan_end below)
+              ∙ ap (laid_text id) (sym plan_laid)
+
+          hold_later : HoldCommits n streams session (entry ∷ past) later
+          hold_later = subst (λ (ps : List Planned). HoldRecords session (end_of session ps).containers (laid_of session ps) later) (sym next_plans) hold_then
+
+          records_then : (ordinal : ℕ) → ordinal < containers_of n streams session (entry ∷ past) → HasRecords n streams (entry ∷ past) later (record { session = session; ordinal = ordinal })
+          unfolding containers_of
+          records_then ordinal below =
+              let id : ContainerId = record { session = session; ordinal = ordinal } in
+              record { rest = []; begins = hold_later ordinal below ∙ sym (append-nil (laid_text id (laid_of session (plans_of n streams (entry ∷ past))))) }
+
+          commit_core : Facts (entry ∷ past) (plan ∷ plans) later
+          commit_core = record {
+            planned = sym next_plans;
+            of_streams = then_of;
+            whole = commits next stored.content stored.text stored.chunks stored.bytes stored.fresh stored.fresh_bytes stored.uses.items past later allowed.legal allowed.entries then_of whole_before text_there records_then;
+            hold = hold_later;
+          }
+
+      -- the same, whatever chunks, located manifests and plans are known to be these
+      module _ (past : List Entry) (seq : ℕ) (stored : Stored) (counted : commits_of session past ≡ seq) (now : Objects) (shelf : ShelfView) (held : shelf.held ≡ Some now) where
+        abbrev the_entry : Entry
+        the_entry = made author (commit_point session seq stored)
+
+        abbrev the_next : ManifestId
+        the_next = record { session = session; seq = seq }
+
+        CommitFacts : List (List ℕ) → List Located → List Planned → Type 0
+        CommitFacts cs located plans =
+            (told : Objects) → (after_puts shelf (puts_against cs located (end_of session plans) n.room)).held ≡ Some told → IsStoredOf cs located (end_of session plans) n.room stored
+            → Facts past plans now → Facts (the_entry ∷ past) (plan_for n streams the_next located plans ∷ plans) (map_of.insert told (manifest_name the_next) (text_against cs located (end_of session plans) n.room))
+
+        commit_facts : IsAllowed (the_entry ∷ past) → (cs : List (List ℕ)) (located : List Located) (plans : List Planned) → manifest_chunks n streams the_next ≡ cs → located ≡ located_of n streams (pending_champions session past) (plans_of n streams past) → plans ≡ plans_of n streams past → CommitFacts cs located plans
+        unfolding CommitFacts next_plan
+        commit_facts allowed cs located all chunks_are located_is planned =
+            subst (λ (ps : List Planned). CommitFacts cs located ps) (sym planned)
+            (subst (λ (ls : List Located). CommitFacts cs ls (plans_of n streams past)) (sym located_is)
+            (subst (λ (c : List (List ℕ)). CommitFacts c (located_of n streams (pending_champions session past) (plans_of n streams past)) (plans_of n streams past)) chunks_are
+            (λ told told_is of facts. commit_core past seq stored counted allowed now shelf held facts of told told_is)))
+
+      located_is : (past : List Entry) (plans : List Planned) (now : Objects) (texts : List (List ℕ)) (located : List Located) → IsAllowed past → Facts past plans now → texts ≡ [] → AreLoadsOf n streams (λ b. In b texts) past plans (pending_champions session past) located → located ≡ located_of n streams (pending_champions session past) (plans_of n streams past)
+      located_is past plans now texts located allowed facts no_texts are =
+          elim
+          (loads_are n streams rules (λ b. ⊥) (λ past. ⊥) (none n streams) past session located
+          (record { sound = sound; legal = allowed.legal; entries = allowed.entries; contents = facts.of_streams.contents.contents; stored = facts.of_streams.stored.stored })
+          (subst (λ (ps : List Planned). AreLoadsOf n streams (λ b. ⊥) past ps (pending_champions session past) located) facts.planned
+          (subst (λ (ts : List (List ℕ)). AreLoadsOf n streams (λ b. In b ts) past plans (pending_champions session past) located) no_texts are))) [ inl same ↦ same | inr bad ↦ absurd bad ]
+
+      commit_whole : (texts : List (List ℕ)) (newer : List Entry) (plans : List Planned) (shelf : ShelfView) (seq : ℕ) (cs : List (List ℕ)) (located : List Located) (stored : Stored)
+          → commits_of session (newer ++ older) ≡ seq
+          → manifest_chunks n streams (record { session = session; seq = seq }) ≡ cs
+          → IsStoredOf cs located (end_of session plans) n.room stored
+          → (IsAllowed (newer ++ older) → AreLoadsOf n streams (λ b. In b texts) (newer ++ older) plans (pending_champions session (newer ++ older)) located)
+          → WholeSo texts newer plans shelf
+          → WholeSo texts (made author (commit_point session seq stored) ∷ newer) (plan_for n streams (record { session = session; seq = seq }) located plans ∷ plans)
+          (after_segment shelf (record { session = session; seq = seq }) cs located (end_of session plans) n.room)
+      unfolding CommitFacts
+      commit_whole texts newer plans shelf seq cs located stored counted chunks_are of loaded so =
+          let past = newer ++ older in
+          let next : ManifestId = record { session = session; seq = seq } in
+          let text = text_against cs located (end_of session plans) n.room in
+          let told = puts_told shelf so.now (puts_against cs located (end_of session plans) n.room) so.held_is in
+          record {
+            no_texts = so.no_texts;
+            now = map_of.insert told.0 (manifest_name next) text;
+            held_is = ap (option_map (λ (o : Objects). map_of.insert o (manifest_name next) text)) told.1;
+            facts = λ allowed.
+                let before = allowed_before (made author (commit_point session seq stored)) past allowed in
+                let facts = so.facts before in
+                commit_facts past seq stored counted so.now shelf so.held_is allowed cs located plans chunks_are
+                (located_is past plans so.now texts located before facts so.no_texts (loaded before)) facts.planned told.0 told.1 of facts;
+          }
+
+      pub is_whole_telling : IsTelling n streams older author session WholeSo IsAllowed
+      is_whole_telling = record {
+        before = allowed_before;
+        load = λ texts newer plans shelf view manifest live kept_is loaded so. load_whole texts newer plans shelf view manifest live kept_is loaded so;
+        choose = λ texts newer plans shelf chosen ids so. choose_whole texts newer plans shelf chosen ids so;
+        commit = λ their_rules texts newer plans shelf seq cs against stored legal counted chunks_are of loaded so. commit_whole texts newer plans shelf seq cs against stored counted chunks_are of loaded so;
+      }

@@ -1,0 +1,223 @@
+-- A backup leaves a whole depot whole.
+use Rattle.std.proofs.Common.{◌≡◌, ◌≢◌, ℕ, ◌<◌, ◌≤◌, ◌^◌, true, false, List, [], ◌∷◌, ◌++◌, Option, Some, Result, Ok, Err, refl, sym, ap, ◌∙◌, subst, inl, inr, arith, append-nil}
+use Rattle.std.specs.FinMap as map_of
+use Rattle.std.specs.Option.{option_map, unwrap_or}
+use Rattle.std.specs.List.{All}
+use Rattle.std.proofs.lemmas.Bool.{false≢true}
+use Rattle.std.proofs.lemmas.Bool.Decides.{eqb_tells}
+use Rattle.std.proofs.lemmas.List.Elements.{All-nil, All-cons, All-head}
+use Rattle.ss_base.specs.declared.ids.ContainerId.{ContainerId}
+use Rattle.ss_base.specs.declared.ids.ManifestId.{ManifestId}
+use Rattle.ss_base.specs.declared.object.Object.{Object}
+use Rattle.ss_base.specs.declared.object.Object.TheVariants.{Container, Manifest as ManifestObject}
+use Rattle.ss_base.specs.declared.profile.Numbers.{Numbers}
+use Rattle.ss_base.specs.ObjectName.{object_text}
+use Rattle.ss_base.specs.Profile.{AreSound}
+use Rattle.ss_base.proofs.MemberLaws.{In}
+use Rattle.ss_base.proofs.IdLaws.{same_manifest-self}
+use Rattle.container_file.specs.declared.container_end.ContainerEnd.{ContainerEnd}
+use Rattle.segment_plan.specs.Plan.{Located, end_against, puts_against}
+use Rattle.outside.specs.Shelf.{Objects, bytes_of, with_object, without_object, CreateLeaves}
+use Rattle.outside.specs.Views.{ShelfView}
+use Rattle.outside.proofs.ObjectLaws.{bytes_of-insert_other, bytes_of-remove_other}
+use Rattle.journal_entry.specs.declared.entry.Entry.{Entry}
+use Rattle.journal_entry.specs.declared.entry.Point.{Point}
+use Rattle.journal_entry.specs.declared.entry.Point.TheVariants.{Abort, Commit}
+use Rattle.journal_entry.specs.Bounds.{IsEntry, PointFits}
+use Rattle.history.specs.declared.rules.Rules.{Rules}
+use Rattle.history.specs.Legal.{is_legal}
+use Rattle.history.specs.Need.{commits_manifest, is_live, is_needed}
+use Rattle.history.specs.Sessions.{has, commits_of}
+use Rattle.history_laws.proofs.SessionLaws.{committed_below}
+use Rattle.store_core.specs.View.{made}
+use Rattle.depot.specs.Calls.{after_create}
+use Rattle.depot.specs.Storing.{after_puts}
+use Rattle.segment_store.specs.Stored.{text_against}
+use Rattle.stored_streams.specs.Streams.{Streams}
+use Rattle.stored_streams.specs.Plans.{Planned, end_of, plans_of, containers_of}
+use Rattle.stored_streams.specs.OfStreams.{HasContents, IsOfStreams}
+use Rattle.stored_streams.specs.Loads.{StoresLoaded}
+use Rattle.stored_streams.specs.Whole.{IsWhole}
+use Rattle.stored_streams.proofs.LoadLaws.{stores_planned}
+use Rattle.stored_streams.proofs.NameLaws.{same_small, small}
+use Rattle.whole_objects.specs.Keeps.{GoesOn, KeepsWanted, CommitsNothing}
+use Rattle.whole_objects.proofs.FitLaws.{committed_fits, needed_low, commits_few}
+use Rattle.whole_objects.proofs.PutLaws.{container_name, manifest_apart, Grow, HasGrown, grow-then}
+use Rattle.whole_objects.proofs.RecordLaws.{put-laid, put-stopped}
+use Rattle.backed_up_streams.proofs.LeftLaws.{HasPutSome, IsLeft}
+use Rattle.backed_up_streams.proofs.LeftLaws.HasPutSome.{stopped, unwritten, all_done}
+use Rattle.backed_up_streams.proofs.LeftLaws.IsLeft.{untouched, put_some}
+use Rattle.backed_up_streams.proofs.LoadLaws.{live_committed, IsTelling, HasEnded}
+use Rattle.backed_up_streams.proofs.WholeLaws.{IsAllowed, allowed_before, Facts, WholeSo}
+
+abbrev manifest_name : ManifestId → List ℕ
+manifest_name id = object_text (ManifestObject id)
+
+manifest_of : Object → ManifestId
+manifest_of (ManifestObject id) = id
+manifest_of (Container id) = record { session = 0; seq = 0 }
+
+-- an entry that commits no manifest commits nothing
+nothing_committed : (point : Point) → ((id : ManifestId) → commits_manifest id point ≡ false) → CommitsNothing point
+unfolding commits_manifest
+nothing_committed (Commit id content text chunks bytes fresh fresh_bytes uses) none = absurd (false≢true (sym (none id) ∙ same_manifest-self id))
+nothing_committed _ none = tt
+
+pub record IsWholeThen (n : Numbers) (streams : Streams) (past : List Entry) (depot : ShelfView) : Type 0 where
+  pub now : Objects
+  pub held_is : depot.held ≡ Some now
+  pub of_streams : IsOfStreams n streams past
+  pub whole : IsWhole n streams past now
+
+module _ (n : Numbers) (sound : AreSound n) (rules : Rules) (streams : Streams) (older : List Entry) (author session : ℕ)
+    (keeps : (past : List Entry) (objects now : Objects) → is_legal rules past ≡ true → All IsEntry past → IsOfStreams n streams past → IsWhole n streams past objects → KeepsWanted n streams past objects now → IsWhole n streams past now)
+    (behind : (newer past : List Entry) (objects : Objects) → is_legal rules (newer ++ past) ≡ true → All (λ (entry : Entry). CommitsNothing entry.point) newer → IsWhole n streams past objects → IsWhole n streams (newer ++ past) objects) where
+  abbrev Told : List (List ℕ) → List Entry → List Planned → ShelfView → Type 0
+  Told = WholeSo n sound rules streams older author session
+
+  abbrev Allowed : List Entry → Type 0
+  Allowed = IsAllowed n sound rules streams older author session
+
+  abbrev FactsOf : List Entry → List Planned → Objects → Type 0
+  FactsOf = Facts n sound rules streams older author session
+
+  -- ---- what is left of a segment that was not committed
+
+  module _ (past : List Entry) (allowed : Allowed past) (count : ℕ) (counted : commits_of session past ≡ count) (low : session < 2 ^ 32) where
+    abbrev next : ManifestId
+    next = record { session = session; seq = count }
+
+    -- its manifest's name is that of no live one
+    not_next : (id : ManifestId) → is_live id past ≡ true → manifest_name id ≢ manifest_name next
+    unfolding manifest_of
+    not_next id live same =
+        let committed = live_committed id past live in
+        let few = commits_few rules session past allowed.legal allowed.entries in
+        let fits = committed_fits id past allowed.entries committed in
+        let below = committed_below rules id past allowed.legal committed in
+        let is_next : id ≡ next = ap manifest_of (same_small (ManifestObject id) (ManifestObject next) (small (ManifestObject id) fits) (omega (arith, low), omega (arith, few, counted)) same) in
+        let own = ap (λ (i : ManifestId). commits_of i.session past) is_next in
+        let last = ap (λ (i : ManifestId). i.seq) is_next in
+        absurd (omega (arith, below, own, last, counted))
+
+    -- what grew, and then a change of its manifest's object alone, keep what is wanted
+    keeps_wanted : (now told later : Objects) → Grow session (containers_of n streams session past) now told → ((q : List ℕ) → q ≢ manifest_name next → bytes_of later q ≡ bytes_of told q) → KeepsWanted n streams past now later
+    keeps_wanted now told later grow others = record {
+      containers = λ id needed below.
+          let same = others (object_text (Container id)) (λ is. manifest_apart next id (sym is)) in
+          elim (eqb_tells id.session session) [
+            | inl (tested, own) ↦
+                let grown = grow.grown id.ordinal (subst (λ (s : ℕ). id.ordinal < containers_of n streams s past) own below) in
+                (grown.0, same ∙ subst (λ (s : ℕ). bytes_of told (container_name s id.ordinal) ≡ bytes_of now (container_name s id.ordinal) ++ grown.0) (sym own) grown.1)
+            | inr (tested, differ) ↦ ([], same ∙ grow.others.containers id (needed_low id past allowed.entries needed) differ ∙ sym (append-nil (bytes_of now (object_text (Container id)))))
+          ];
+      manifests = λ id live. others (manifest_name id) (not_next id live) ∙ grow.others.manifests id;
+    }
+
+    record IsKeptThen (now : Objects) (after : ShelfView) : Type 0 where
+      later : Objects
+      held_is : after.held ≡ Some later
+      wanted : KeepsWanted n streams past now later
+
+    create_left : (now told : Objects) (text : List ℕ) (before after : ShelfView) → Grow session (containers_of n streams session past) now told → before.held ≡ Some told → CreateLeaves before.held after.held (manifest_name next) text → IsKeptThen now after
+    create_left now told text before after grow held (inl same) = record { later = told; held_is = same ∙ held; wanted = keeps_wanted now told told grow (λ q differ. refl) }
+    create_left now told text before after grow held (inr (inl (front, back, text_is, made_it))) = record {
+      later = map_of.insert told (manifest_name next) front;
+      held_is = made_it ∙ ap (λ (h : Option Objects). with_object h (manifest_name next) front) held;
+      wanted = keeps_wanted now told (map_of.insert told (manifest_name next) front) grow (λ q differ. bytes_of-insert_other told (manifest_name next) front q differ);
+    }
+    create_left now told text before after grow held (inr (inr gone)) = record {
+      later = map_of.remove told (manifest_name next);
+      held_is = gone ∙ ap (λ (h : Option Objects). without_object h (manifest_name next)) held;
+      wanted = keeps_wanted now told (map_of.remove told (manifest_name next)) grow (λ q differ. bytes_of-remove_other told (manifest_name next) q differ);
+    }
+
+    module _ (now : Objects) (before : ShelfView) (held : before.held ≡ Some now) (facts : FactsOf past (plans_of n streams past) now) (chunks : List (List ℕ)) (against : List Located) (few : (end_against chunks against (end_of session (plans_of n streams past)) n.room).containers ≤ 2 ^ 32) where
+      record IsPutThen : Type 0 where
+        told : Objects
+        held_is : (after_puts before (puts_against chunks against (end_of session (plans_of n streams past)) n.room)).held ≡ Some told
+        grow : Grow session (containers_of n streams session past) now told
+
+      put_then : IsPutThen
+      unfolding containers_of
+      put_then =
+          let (told, held_is, put) = put-laid n streams session past chunks against before now low few held facts.hold in
+          record { told = told; held_is = held_is; grow = record { others = put.others; grown = put.grown } }
+
+      left_so : (after : ShelfView) → HasPutSome next chunks against (end_of session (plans_of n streams past)) n.room before after → IsKeptThen now after
+      unfolding containers_of
+      left_so after (stopped trouble failed) =
+          let grown = put-stopped n streams session past chunks against before now low after trouble few held failed in
+          record { later = grown.now; held_is = grown.held_is; wanted = keeps_wanted now grown.now grown.now grown.grow (λ q differ. refl) }
+      left_so after (unwritten trouble failed) =
+          let put = put_then in
+          create_left now put.told (text_against chunks against (end_of session (plans_of n streams past)) n.room) (after_puts before (puts_against chunks against (end_of session (plans_of n streams past)) n.room)) after put.grow put.held_is failed.objects
+      left_so after (all_done done) =
+          let put = put_then in
+          let text = text_against chunks against (end_of session (plans_of n streams past)) n.room in
+          let made_then = after_puts before (puts_against chunks against (end_of session (plans_of n streams past)) n.room) in
+          record {
+            later = map_of.insert put.told (manifest_name next) text;
+            held_is = ap (λ (s : ShelfView). s.held) done ∙ ap (λ (h : Option Objects). with_object h (manifest_name next) text) put.held_is;
+            wanted = keeps_wanted now put.told (map_of.insert put.told (manifest_name next) text) put.grow (λ q differ. bytes_of-insert_other put.told (manifest_name next) text q differ);
+          }
+
+  -- ---- how a session ends
+
+  abort_low : (last : Entry) (containers written : ℕ) → IsEntry last → last ≡ made author (Abort session containers written) → (session < 2 ^ 32) × (containers < 2 ^ 32)
+  abort_low last containers written is same = let fits = subst (λ (e : Entry). PointFits e.point) same is.point in (fits.0, fits.1)
+
+  module _ (telling : IsTelling n streams older author session Told Allowed) (past : List Entry) (after : ShelfView) (ended : HasEnded n streams older author session Told Allowed telling past after) (allowed : Allowed past) (was : IsOfStreams n streams older) where
+    abbrev before_last : List Entry
+    before_last = ended.then_newer ++ older
+
+    allowed_now : Allowed (ended.last ∷ before_last)
+    allowed_now = subst Allowed ended.past_is allowed
+
+    facts_then : FactsOf before_last ended.then_plans ended.told.now
+    facts_then = ended.told.facts (allowed_before n sound rules streams older author session ended.last before_last allowed_now)
+
+    loads_now : StoresLoaded n streams ended.loads (λ b. ⊥) (ended.last ∷ ended.then_newer) older
+    loads_now = ended.stores allowed_now [] (λ b there. subst (λ (ts : List (List ℕ)). In b ts) ended.told.no_texts there)
+
+    of_now : IsOfStreams n streams (ended.last ∷ before_last)
+    of_now = record {
+      contents = allowed_now.contents;
+      stored = stores_planned n streams rules ended.loads (ended.last ∷ ended.then_newer) older sound allowed_now.legal allowed_now.entries was allowed_now.contents loads_now;
+    }
+
+    then_allowed : Allowed before_last
+    then_allowed = allowed_before n sound rules streams older author session ended.last before_last allowed_now
+
+    record IsLater : Type 0 where
+      later : Objects
+      held_is : after.held ≡ Some later
+      whole : IsWhole n streams before_last later
+
+    left_now : IsLeft n author session ended.count ended.last ended.then_plans ended.then_shelf after → IsLater
+    left_now (untouched same) = record { later = ended.told.now; held_is = same ∙ ended.told.held_is; whole = facts_then.whole }
+    left_now (put_some chunks against written last_is some) =
+        let at_plans = subst (λ (ps : List Planned). ended.last ≡ made author (Abort session (end_against chunks against (end_of session ps) n.room).containers written)) facts_then.planned last_is in
+        let some_then = subst (λ (ps : List Planned). HasPutSome (record { session = session; seq = ended.count }) chunks against (end_of session ps) n.room ended.then_shelf after) facts_then.planned some in
+        let facts = subst (λ (ps : List Planned). FactsOf before_last ps ended.told.now) facts_then.planned facts_then in
+        let low = abort_low ended.last (end_against chunks against (end_of session (plans_of n streams before_last)) n.room).containers written (All-head IsEntry ended.last before_last allowed_now.entries) at_plans in
+        let few = low.1 in
+        let kept = left_so before_last then_allowed ended.count ended.counted low.0 ended.told.now ended.then_shelf ended.told.held_is facts chunks against (omega (arith, few)) after some_then in
+        record {
+          later = kept.later;
+          held_is = kept.held_is;
+          whole = keeps before_last ended.told.now kept.later then_allowed.legal then_allowed.entries facts.of_streams facts.whole kept.wanted;
+        }
+
+    pub ended-whole : IsWholeThen n streams past after
+    ended-whole =
+        let is = left_now ended.left in
+        record {
+          now = is.later;
+          held_is = is.held_is;
+          of_streams = subst (IsOfStreams n streams) (sym ended.past_is) of_now;
+          whole =
+              subst (λ (p : List Entry). IsWhole n streams p is.later) (sym ended.past_is)
+              (behind (ended.last ∷ []) before_last is.later allowed_now.legal
+              (All-cons (λ (e : Entry). CommitsNothing e.point) ended.last [] (nothing_committed ended.last.point ended.commits_none) (All-nil (λ (e : Entry). CommitsNothing e.point))) is.whole);
+        }
