@@ -1,5 +1,5 @@
 -- What stays where other bytes could be given, and a backup that began no session.
-use Rattle.std.proofs.Common.{◌≡◌, ℕ, List, [], ◌∷◌, ◌++◌, None, Err, ap, inl, inr}
+use Rattle.std.proofs.Common.{◌≡◌, ◌⊎◌, ℕ, List, [], ◌∷◌, ◌++◌, None, Err, ap, inl, inr}
 use Rattle.ss_base.specs.declared.ids.ManifestId.{ManifestId}
 use Rattle.ss_base.specs.declared.profile.Numbers.{Numbers}
 use Rattle.ss_base.specs.Profile.{numbers_of}
@@ -53,26 +53,34 @@ module _ (given other : List ℕ → Type 0) (weaker : (b : List ℕ) → given 
 
 -- ---- no session began
 
-module _ (standings champions : ℕ) (files : ShelfView) (input name : List ℕ) (before : IdleView) (streams : Streams) (reads : List Reads) where
-  abbrev Loaded : IdleView → Type 0
-  Loaded after = HasLoaded (numbers_of before.seen.profile) streams reads (past_of before.seen) (past_of after.seen)
+module _ (standings champions : ℕ) (files : ShelfView) (input name : List ℕ) (before : IdleView) where
+  -- the history is as before, or has a Begin without a session
+  abbrev pub AddsNoSession : IdleView → Type 0
+  AddsNoSession after = (past_of after.seen ≡ past_of before.seen) ⊎ (past_of after.seen ≡ made before.author (Begin name None) ∷ past_of before.seen)
 
-  unchanged-loaded : (after : IdleView) → past_of after.seen ≡ past_of before.seen → Loaded after
-  unchanged-loaded after same = record { newer = []; past_is = same; loads = λ id. []; stores = tt }
-
-  unbegun-loaded : (cause : BeginFault) (after : IdleView) → HasNotBegun alone standings champions before name after cause → Loaded after
-  unbegun-loaded begin.Taken after has =
+  unbegun-adds : (cause : BeginFault) (after : IdleView) → HasNotBegun alone standings champions before name after cause → AddsNoSession after
+  unbegun-adds begin.Taken after has =
       let done = at_seen standings champions before.author before.seen (λ turn. BeginAnswer turn after.seen before.author name (Err begin.Taken)) has.at_turn in
-      let entry = made before.author (Begin name None) in
-      record { newer = entry ∷ []; past_is = (steps standings champions before.author before.seen after.seen entry done.1).past; loads = λ id. []; stores = (tt, tt) }
-  unbegun-loaded begin.Full after has =
+      inr (steps standings champions before.author before.seen after.seen (made before.author (Begin name None)) done.1).past
+  unbegun-adds begin.Full after has =
       let done = at_seen standings champions before.author before.seen (λ turn. BeginAnswer turn after.seen before.author name (Err begin.Full)) has.at_turn in
-      unchanged-loaded after (ap past_of done.same)
-  unbegun-loaded begin.Memory after has =
+      inl (ap past_of done.same)
+  unbegun-adds begin.Memory after has =
       let done = at_seen standings champions before.author before.seen (λ turn. BeginAnswer turn after.seen before.author name (Err begin.Memory)) has.at_turn in
-      unchanged-loaded after (ap past_of done)
+      inl (ap past_of done)
 
-  pub unstarted-loaded : (after : IdleView) (fault : BackupFault) → HasNotStarted alone standings champions files input name before after fault → Loaded after
-  unstarted-loaded after fault (unasked cause is same) = unchanged-loaded after (ap (λ (i : IdleView). past_of i.seen) same)
-  unstarted-loaded after fault (absent is not_there same) = unchanged-loaded after (ap (λ (i : IdleView). past_of i.seen) same)
-  unstarted-loaded after fault (unbegun cause is there has) = unbegun-loaded cause after has
+  pub unstarted-adds : (after : IdleView) (fault : BackupFault) → HasNotStarted alone standings champions files input name before after fault → AddsNoSession after
+  unstarted-adds after fault (unasked cause is same) = inl (ap (λ (i : IdleView). past_of i.seen) same)
+  unstarted-adds after fault (absent is not_there same) = inl (ap (λ (i : IdleView). past_of i.seen) same)
+  unstarted-adds after fault (unbegun cause is there has) = unbegun-adds cause after has
+
+  module _ (streams : Streams) (reads : List Reads) where
+    abbrev Loaded : IdleView → Type 0
+    Loaded after = HasLoaded (numbers_of before.seen.profile) streams reads (past_of before.seen) (past_of after.seen)
+
+    added-loaded : (after : IdleView) → AddsNoSession after → Loaded after
+    added-loaded after (inl same) = record { newer = []; past_is = same; loads = λ id. []; stores = tt }
+    added-loaded after (inr is) = record { newer = made before.author (Begin name None) ∷ []; past_is = is; loads = λ id. []; stores = (tt, tt) }
+
+    pub unstarted-loaded : (after : IdleView) (fault : BackupFault) → HasNotStarted alone standings champions files input name before after fault → Loaded after
+    unstarted-loaded after fault has = added-loaded after (unstarted-adds after fault has)

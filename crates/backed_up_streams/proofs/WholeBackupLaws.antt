@@ -221,3 +221,94 @@ module _ (n : Numbers) (sound : AreSound n) (rules : Rules) (streams : Streams) 
               (behind (ended.last ∷ []) before_last is.later allowed_now.legal
               (All-cons (λ (e : Entry). CommitsNothing e.point) ended.last [] (nothing_committed ended.last.point ended.commits_none) (All-nil (λ (e : Entry). CommitsNothing e.point))) is.whole);
         }
+
+-- ---- a backup
+
+module _ (standings champions : ℕ) (files : ShelfView) (input name : List ℕ) (before : IdleView) (streams : Streams) (objects : Objects) (told : files.held ≡ Some objects) (depot : ShelfView) (stored : Objects) (depot_told : depot.held ≡ Some stored) (rules : Rules)
+    (was : IsOfStreams (numbers_of before.seen.profile) streams (past_of before.seen)) (was_whole : IsWhole (numbers_of before.seen.profile) streams (past_of before.seen) stored) where
+  abbrev numbers : Numbers
+  numbers = numbers_of before.seen.profile
+
+  abbrev sound_numbers : AreSound numbers
+  sound_numbers = AreSound-numbers_of before.seen.profile
+
+  abbrev the_past : List Entry
+  the_past = past_of before.seen
+
+  keep : (past : List Entry) (held now : Objects) → is_legal rules past ≡ true → All IsEntry past → IsOfStreams numbers streams past → IsWhole numbers streams past held → KeepsWanted numbers streams past held now → IsWhole numbers streams past now
+  keep past held now legal entries of_streams whole wanted = kept_whole numbers streams rules past held now sound_numbers legal entries of_streams whole wanted
+
+  no_commits : (newer past : List Entry) (held : Objects) → is_legal rules (newer ++ past) ≡ true → All (λ (entry : Entry). CommitsNothing entry.point) newer → IsWhole numbers streams past held → IsWhole numbers streams (newer ++ past) held
+  no_commits newer past held legal nothing whole = whole_behind numbers streams rules newer past held legal nothing whole
+
+  -- no session began
+  added-whole : (after : IdleView) → AddsNoSession standings champions files input name before after → is_legal rules (past_of after.seen) ≡ true → IsWholeThen numbers streams (past_of after.seen) depot
+  added-whole after (inl same) legal = subst (λ (p : List Entry). IsWholeThen numbers streams p depot) (sym same) (record { now = stored; held_is = depot_told; of_streams = was; whole = was_whole })
+  added-whole after (inr is) legal =
+      let entry = made before.author (Begin name None) in
+      subst (λ (p : List Entry). IsWholeThen numbers streams p depot) (sym is)
+      (record {
+        now = stored;
+        held_is = depot_told;
+        of_streams = of_streams_stays numbers streams (entry ∷ []) the_past (All-cons (λ (e : Entry). StoresNothing e.point) entry [] tt (All-nil (λ (e : Entry). StoresNothing e.point))) was;
+        whole =
+            no_commits (entry ∷ []) the_past stored (subst (λ (p : List Entry). is_legal rules p ≡ true) is legal)
+            (All-cons (λ (e : Entry). CommitsNothing e.point) entry [] tt (All-nil (λ (e : Entry). CommitsNothing e.point))) was_whole;
+      })
+
+  module _ (started : HasStarted alone standings champions files input name before) where
+    abbrev the_session : ℕ
+    the_session = started.caller.session
+
+    abbrev begin_it : Entry
+    begin_it = made before.author (Begin name (Some the_session))
+
+    abbrev ToldIs : List (List ℕ) → List Entry → List Planned → ShelfView → Type 0
+    ToldIs = WholeSo numbers sound_numbers rules streams the_past before.author the_session
+
+    abbrev AllowedIs : List Entry → Type 0
+    AllowedIs = IsAllowed numbers sound_numbers rules streams the_past before.author the_session
+
+    abbrev tells : IsTelling numbers streams the_past before.author the_session ToldIs AllowedIs
+    tells = is_whole_telling numbers sound_numbers rules streams the_past before.author the_session no_commits keep
+    (λ id content text chunks bytes fresh fresh_bytes uses past held legal entries of_streams whole text_there records. committed_whole numbers streams rules before.author id content text chunks bytes fresh fresh_bytes uses past held sound_numbers legal entries of_streams whole text_there records)
+
+    none_yet : commits_of the_session the_past ≡ 0
+    unfolding commits_of commits
+    none_yet =
+        ap (commits_of the_session) (sym (begins_with standings champions files input name before streams objects told started))
+        ∙ (begun_open alone standings champions before.author the_session name before.seen started.caller.seen started.begun.at_turn).commit_count
+
+    first_facts : AllowedIs (begin_it ∷ the_past) → Facts numbers sound_numbers rules streams the_past before.author the_session (begin_it ∷ the_past) (plans_of numbers streams the_past) stored
+    unfolding plans_of plans_after
+    first_facts allowed = record {
+      planned = refl;
+      of_streams = of_streams_stays numbers streams (begin_it ∷ []) the_past (All-cons (λ (e : Entry). StoresNothing e.point) begin_it [] tt (All-nil (λ (e : Entry). StoresNothing e.point))) was;
+      whole = no_commits (begin_it ∷ []) the_past stored allowed.legal (All-cons (λ (e : Entry). CommitsNothing e.point) begin_it [] tt (All-nil (λ (e : Entry). CommitsNothing e.point))) was_whole;
+      hold = λ ordinal below. let none = ap (λ (e : ContainerEnd). e.containers) (end_at_first numbers streams the_session the_past none_yet) in absurd (omega (arith, below, none));
+    }
+
+    at_first : ToldIs [] (begin_it ∷ []) (plans_of numbers streams the_past) depot
+    at_first = record { no_texts = refl; now = stored; held_is = depot_told; facts = first_facts }
+
+    run-whole : (after : IdleView) (depot' : ShelfView) → HasEnded numbers streams the_past before.author the_session ToldIs AllowedIs tells (past_of after.seen) depot' → AllowedIs (past_of after.seen) → IsWholeThen numbers streams (past_of after.seen) depot'
+    run-whole after depot' ended allowed =
+        ended-whole numbers sound_numbers rules streams the_past before.author the_session keep no_commits tells (past_of after.seen) depot' ended allowed was
+
+  pub backup-whole : (after : IdleView) (depot' : ShelfView) (result : Result ℕ BackupFault) → BackupAnswer alone standings champions files input name before depot after depot' result
+      → IsOfInput streams (past_of before.seen) (past_of after.seen) (bytes_of objects input) → is_legal rules (past_of after.seen) ≡ true → All IsEntry (past_of after.seen) → HasContents numbers streams (past_of after.seen)
+      → IsWholeThen numbers streams (past_of after.seen) depot'
+  backup-whole after depot' (Ok number) has of_input legal entries contents =
+      let started = has.started in
+      let streamed = has.streamed in
+      let stream_is = finished-of_input standings champions files input name before streams objects told started streamed.last depot after depot' streamed.finished of_input in
+      run-whole started after depot'
+      (finished-run standings champions files input name before streams objects told started (ToldIs started) (AllowedIs started) (tells started) depot (at_first started) stream_is streamed.last after depot' streamed.finished)
+      (record { legal = legal; entries = entries; contents = contents })
+  backup-whole after depot' (Err fault) (not_started same has) of_input legal entries contents =
+      subst (λ (d : ShelfView). IsWholeThen numbers streams (past_of after.seen) d) (sym same) (added-whole after (unstarted-adds standings champions files input name before after fault has) legal)
+  backup-whole after depot' (Err fault) (given_up started streamed) of_input legal entries contents =
+      let stream_is = failed-of_input standings champions files input name before streams objects told started streamed.last depot after depot' fault streamed.failed of_input in
+      run-whole started after depot'
+      (failed-run standings champions files input name before streams objects told started (ToldIs started) (AllowedIs started) (tells started) depot (at_first started) stream_is streamed.last after depot' fault streamed.failed)
+      (record { legal = legal; entries = entries; contents = contents })
