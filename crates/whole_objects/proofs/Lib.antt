@@ -1,2 +1,3 @@
 pub mod WantedLaws
 pub mod KeepLaws
+pub mod EntryLaws
