@@ -1,3 +1,4 @@
 pub mod WantedLaws
 pub mod KeepLaws
 pub mod EntryLaws
+pub mod ReclaimLaws
