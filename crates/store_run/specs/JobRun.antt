@@ -1,7 +1,9 @@
 -- What a run of one job did (this project's own).
 use Rattle.std.specs.Prelude.{◌≡◌, ℕ, Bool, true, false, if◌then◌else◌, List, [], ◌∷◌, ◌++◌, length, map, None, Some, Result, Ok, Err}
+use Rattle.std.specs.List.{AllByRecursion}
 use Rattle.journal_entry.specs.declared.entry.Entry.{Entry}
 use Rattle.journal_entry.specs.declared.entry.Point.{Point}
+use Rattle.journal_entry.specs.Bounds.{IsEntry}
 use Rattle.journal_entry.specs.EntryText.{entries_text}
 use Rattle.outside.specs.Faults.{HasCause}
 use Rattle.outside.specs.Shelf.{AppendLeaves}
@@ -75,9 +77,10 @@ PrintAnswer text sink sink' (Err trouble) = TakesFront sink sink' text
 
 -- ---- keeping the entries
 
--- the entries' texts stand behind the journal; where the append failed, a front of them, perhaps none
+-- the entries' texts stand behind the journal, and can be read; where the append failed, a front of them, perhaps none
 abbrev pub KeepAnswer : ShelfView → ShelfView → List Entry → Kept → Type 0
-KeepAnswer before after entries (Ok done) = after ≡ record before { held = with_entries before.held entries; wrote = with_write before.wrote entries }
+KeepAnswer before after entries (Ok done) =
+    AllByRecursion IsEntry entries × (after ≡ record before { held = with_entries before.held entries; wrote = with_write before.wrote entries })
 KeepAnswer before after entries (Err fault) =
     AppendLeaves before.held after.held journal_name (entries_text entries) × (after ≡ record before { held = after.held; faults = after.faults })
 
