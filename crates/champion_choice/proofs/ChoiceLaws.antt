@@ -3,21 +3,23 @@ use Rattle.std.proofs.Common.{◌≡◌, ℕ, zero, suc, ◌<◌, Bool, true, fa
 use Rattle.std.specs.List.{find, list_any, list_all, Contains, All}
 use Rattle.std.specs.Option.{IfSome, option_map_or, option_map}
 use Rattle.std.specs.Map.{lookup}
-use Rattle.std.specs.Ordering.{eq_by_cmp}
-use Rattle.std.specs.BTreeMap as tree
+use Rattle.std.specs.Cmp.{IsEquivalence}
+use Rattle.std.specs.HashMap as hash
 use Rattle.std.proofs.lemmas.Bool.{both_ways, cases_Bool, and_parts, and_from, or_cases, ltb-true, leb-true, eq-eqb}
+use Rattle.std.proofs.lemmas.Cmp.{eq_by_cmp_equiv}
+use Rattle.std.proofs.lemmas.Map.Views.{lookup-from_Contains}
 use Rattle.std.proofs.lemmas.List.Elements.{All-head, All-tail}
 use Rattle.std.proofs.lemmas.List.Folds.{sum_by-zero}
 use Rattle.ss_base.specs.declared.ids.ManifestId.{ManifestId}
 use Rattle.ss_base.specs.declared.ids.Standing.{Standing}
 use Rattle.ss_base.specs.Ids.{same_manifest}
-use Rattle.ss_base.specs.Order.{manifest_cmp}
+use Rattle.ss_base.specs.contracts.ids.ManifestIdOrd.TheImpl.Laws.{total-law}
 use Rattle.ss_base.specs.Champions.{stands_in, hooks_covered, is_at_least, candidates, is_unbeaten, best, uncovered, champions}
 use Rattle.ss_base.proofs.IdLaws.{same_manifest-self, same_manifest-true}
 use Rattle.ss_base.proofs.OrderLaws.{manifests_tied}
 use Rattle.ss_base.proofs.MemberLaws.{In, any_in, in_any, all_in, flat_map_in, count_none, in_append_left, in_append_right}
 use Rattle.champion_choice.specs.declared.score.Score.{Score}
-use Rattle.champion_choice.specs.Scores.{score_at, hooks_in, hooks_at, stamp_at, is_ahead}
+use Rattle.champion_choice.specs.Scores.{Kept, score_at, hooks_in, hooks_at, stamp_at, is_ahead}
 use Rattle.champion_choice.specs.Lists.{StampsTell, remaining}
 use Rattle.champion_choice.proofs.ListLaws.{remaining_in}
 use Rattle.champion_choice.proofs.BestLaws.{IsBestOf}
@@ -98,14 +100,14 @@ remaining_candidates flags lists x h =
 
 -- ---- entries
 
-lookup_in : (q : ManifestId) (s : Score) (es : List (ManifestId × Score)) → lookup (tree.is_at (manifest_cmp q)) es ≡ Some s → In (q, s) es
+lookup_in : (q : ManifestId) (s : Score) (es : List (ManifestId × Score)) → lookup (same_manifest q) es ≡ Some s → In (q, s) es
 lookup_in q s [] is = absurd (cc)
-lookup_in q s (e ∷ es) is = elim (cases_Bool (eq_by_cmp manifest_cmp q e.0)) [
+lookup_in q s (e ∷ es) is = elim (cases_Bool (same_manifest q e.0)) [
   | inl same ↦
-      let id : q ≡ e.0 = same_manifest-true q e.0 (sym (manifests_tied q e.0) ∙ same) in
-      let score : e.1 ≡ s = some_is e.1 s (sym (ap (λ b. cond b (Some e.1) (lookup (tree.is_at (manifest_cmp q)) es)) same) ∙ is) in
+      let id : q ≡ e.0 = same_manifest-true q e.0 same in
+      let score : e.1 ≡ s = some_is e.1 s (sym (ap (λ b. cond b (Some e.1) (lookup (same_manifest q) es)) same) ∙ is) in
       inl (λ j. (sym id j, score j))
-  | inr apart ↦ inr (lookup_in q s es (sym (ap (λ b. cond b (Some e.1) (lookup (tree.is_at (manifest_cmp q)) es)) apart) ∙ is))
+  | inr apart ↦ inr (lookup_in q s es (sym (ap (λ b. cond b (Some e.1) (lookup (same_manifest q) es)) apart) ∙ is))
 ]
   where
     some_is : (a b : Score) → Some a ≡ Some b → a ≡ b
@@ -116,10 +118,13 @@ scored : (o : Option Score) → 0 < hooks_in o → (s : Score) × (o ≡ Some s)
 scored None some = absurd (omega arith)
 scored (Some s) some = (s, refl)
 
--- the best of a tree's entries is found there
-pub found_best : (m : tree.BTreeMap ManifestId Score) → All (λ (e : ManifestId × Score). score_at m e.0 ≡ Some e.1) m.entries → (o : Option (ManifestId × Score)) → IsBestOf (λ e. In e m.entries) o → IfSome o (λ (e : ManifestId × Score). score_at m e.0 ≡ Some e.1)
-found_best m all None so = tt
-found_best m all (Some b) so = in_all (λ (e : ManifestId × Score). score_at m e.0 ≡ Some e.1) b m.entries all so.0
+ids_equal : IsEquivalence same_manifest
+ids_equal = subst IsEquivalence (λ i a b. manifests_tied a b i) (eq_by_cmp_equiv total-law)
+
+-- the best of the entries is found there
+pub found_best : (m : Kept) → hash.IsUnique same_manifest m → (o : Option (ManifestId × Score)) → IsBestOf (λ e. In e m.entries) o → IfSome o (λ (e : ManifestId × Score). score_at m e.0 ≡ Some e.1)
+found_best m unique None so = tt
+found_best m unique (Some b) so = lookup-from_Contains ids_equal b.0 b.1 m.entries unique (In-contains b m.entries so.0)
 
 -- ---- one round
 
@@ -133,13 +138,13 @@ same_id all tell x y hx hy same =
     same_manifest-true x.id y.id (tell x y (In-contains x (candidates all) hx) (In-contains y (candidates all) hy) ∙ eq-eqb x.stamp y.stamp same)
 
 -- the scores are those of the lists that are left, and each manifest has its stamp
-pub record IsRound (m : tree.BTreeMap ManifestId Score) (all rest : List (List Standing)) : Type 0 where
+pub record IsRound (m : Kept) (all rest : List (List Standing)) : Type 0 where
   pub tell : StampsTell all
   pub hooks : (q : ManifestId) → hooks_at m q ≡ hooks_covered rest q
   pub stamps : (q : ManifestId) (t : ℕ) → stamp_at m q ≡ Some t → In (record { id = q; stamp = t }) (candidates all)
   pub within : (x : Standing) → In x (candidates rest) → In x (candidates all)
 
-module _ (m : tree.BTreeMap ManifestId Score) (all rest : List (List Standing)) (round : IsRound m all rest) where
+module _ (m : Kept) (all rest : List (List Standing)) (round : IsRound m all rest) where
   has_score : (x : Standing) → In x (candidates rest) → (s : Score) × (score_at m x.id ≡ Some s)
   has_score x h = scored (score_at m x.id) (let some = counted x rest h in let same = round.hooks x.id in omega (arith, some, same))
 

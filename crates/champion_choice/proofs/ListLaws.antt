@@ -2,7 +2,6 @@
 use Rattle.std.proofs.Common.{◌≡◌, ℕ, zero, suc, ◌+◌, ◌-◌, ◌<◌, ◌≤◌, Bool, true, false, cond, not, ◌||◌, List, [], ◌∷◌, ◌++◌, length, take, get_or, set, replicate, None, Vec, Global, refl, sym, ap, ◌∙◌, subst, inl, inr, arith}
 use Rattle.std.specs.Map.{lookup}
 use Rattle.std.specs.Option.{option_map}
-use Rattle.std.specs.BTreeMap as tree
 use Rattle.std.proofs.lemmas.Bool.{cases_Bool}
 use Rattle.std.proofs.lemmas.List.{take_more, append-nil, append_assoc, length-take}
 use Rattle.std.proofs.lemmas.List.Elements.{filter-append}
@@ -11,11 +10,11 @@ use Rattle.std.proofs.lemmas.List.Filters.{sum_by-filter_both}
 use Rattle.std.proofs.lemmas.Grind.{flat_map-append}
 use Rattle.ss_base.specs.declared.ids.ManifestId.{ManifestId}
 use Rattle.ss_base.specs.declared.ids.Standing.{Standing}
-use Rattle.ss_base.specs.Order.{manifest_cmp}
+use Rattle.ss_base.specs.Ids.{same_manifest}
 use Rattle.ss_base.specs.Champions.{stands_in, hooks_covered, candidates, uncovered}
 use Rattle.ss_base.proofs.MemberLaws.{In, in_append_left, in_append_right, count_one, count_other}
 use Rattle.champion_choice.specs.declared.score.Score.{Score}
-use Rattle.champion_choice.specs.Scores.{hooks_in, stamp_at, one_if}
+use Rattle.champion_choice.specs.Scores.{Kept, hooks_in, stamp_at, one_if}
 use Rattle.champion_choice.specs.Lists.{standings, left, remaining, marked, covered_by, HasAddedList, IsScored}
 
 -- ---- counts
@@ -69,14 +68,14 @@ candidates_more lists i d below =
     ∙ ap (λ l. candidates (take i lists) ++ l) (candidates_single (get_or lists i d))
 
 -- no list has no scores
-pub scored_none : (m : tree.BTreeMap ManifestId Score) → m.entries ≡ [] → IsScored m []
+pub scored_none : (m : Kept) → m.entries ≡ [] → IsScored m []
 scored_none m empty = record {
-  hooks = λ q. ap (λ es. hooks_in (lookup (tree.is_at (manifest_cmp q)) es)) empty ∙ sym (count_nil q);
-  stamps = λ q t is. let none : stamp_at m q ≡ None = ap (λ es. option_map (λ (s : Score). s.stamp) (lookup (tree.is_at (manifest_cmp q)) es)) empty in absurd (cc);
+  hooks = λ q. ap (λ es. hooks_in (lookup (same_manifest q) es)) empty ∙ sym (count_nil q);
+  stamps = λ q t is. let none : stamp_at m q ≡ None = ap (λ es. option_map (λ (s : Score). s.stamp) (lookup (same_manifest q) es)) empty in absurd (cc);
 }
 
 -- the scores of one list more
-pub scored_more : (lists : List (List Standing)) (i : ℕ) (d : List Standing) (old new : tree.BTreeMap ManifestId Score) → i < length lists
+pub scored_more : (lists : List (List Standing)) (i : ℕ) (d : List Standing) (old new : Kept) → i < length lists
     → IsScored old (take i lists) → HasAddedList old new (get_or lists i d) → IsScored new (take (i + 1) lists)
 scored_more lists i d old new below so to = record {
   hooks = λ q. to.hooks q ∙ ap (λ n. n + one_if (stands_in q (get_or lists i d))) (so.hooks q) ∙ sym (count_more lists i d q below);

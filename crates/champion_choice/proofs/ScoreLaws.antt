@@ -1,39 +1,32 @@
--- Scores that a tree keeps, by id.
+-- Scores that are kept, by id.
 use Rattle.std.proofs.Common.{◌≡◌, ℕ, zero, suc, ◌+◌, ◌-◌, ◌<◌, Bool, true, false, cond, ◌||◌, List, [], ◌∷◌, length, take, get_or, Some, refl, sym, ap, ◌∙◌, subst, inl, inr, arith}
-use Rattle.std.specs.declared.cmp.Ordering.{Ordering}
-use Rattle.std.specs.Ordering.{eq_by_cmp}
 use Rattle.std.specs.Option.{option_map}
 use Rattle.std.specs.List.{AllByRecursion}
-use Rattle.std.specs.BTreeMap as tree
+use Rattle.std.specs.HashMap as hash
 use Rattle.std.proofs.lemmas.Bool.{both_ways, false_from_ne_true, cases_Bool}
 use Rattle.std.proofs.lemmas.Map.Keys.{IsDistinct-head, IsDistinct-tail}
 use Rattle.std.proofs.lemmas.List.{take_more}
 use Rattle.std.proofs.lemmas.List.Folds.{list_any_more}
 use Rattle.ss_base.specs.declared.ids.ManifestId.{ManifestId}
 use Rattle.ss_base.specs.declared.ids.Standing.{Standing}
-use Rattle.ss_base.specs.contracts.ids.ManifestIdOrd.TheImpl as id_ord
+use Rattle.ss_base.specs.contracts.ids.ManifestIdPartialEq.TheImpl as id_eq
 use Rattle.ss_base.specs.Ids.{same_manifest}
-use Rattle.ss_base.specs.Order.{manifest_cmp}
 use Rattle.ss_base.specs.Champions.{stands_in}
 use Rattle.ss_base.proofs.IdLaws.{same_manifest-self, same_manifest-true}
-use Rattle.ss_base.proofs.OrderLaws.{manifests_tied}
 use Rattle.champion_choice.specs.declared.score.Score.{Score}
-use Rattle.champion_choice.specs.Scores.{score_at, hooks_in, hooks_at, stamp_at, one_if, HasAdded, HasTaken, HasLowered, StandsOnce}
+use Rattle.champion_choice.specs.Scores.{Kept, score_at, hooks_in, hooks_at, stamp_at, one_if, HasAdded, HasTaken, HasLowered, StandsOnce}
 use Rattle.ss_base.proofs.MemberLaws.{In, in_append_left, in_append_right}
 use Rattle.champion_choice.specs.Lists.{HasAddedList}
 
 -- ---- ids
 
--- the order that the derive gives
-abbrev pub derived : ManifestId → ManifestId → Ordering
-derived = (id_ord.ghosts).cmp
+-- the test that the derive gives
+abbrev pub derived : ManifestId → ManifestId → Bool
+derived = (id_eq.ghosts).eq
 
 pub apart_back : (a b : ManifestId) → same_manifest a b ≡ false → same_manifest b a ≡ false
 apart_back a b apart = false_from_ne_true (same_manifest b a) (λ same.
     both_ways (same_manifest a b) apart (subst (λ (x : ManifestId). same_manifest x b ≡ true) (same_manifest-true b a same) (same_manifest-self b)))
-
-apart_keys : (q k : ManifestId) → same_manifest q k ≡ false → eq_by_cmp manifest_cmp k q ≡ false
-apart_keys q k apart = manifests_tied k q ∙ apart_back q k apart
 
 -- what holds of one id and of each other holds of all
 pub by_id : (P : ManifestId → Type 0) (k : ManifestId) → P k → ((q : ManifestId) → same_manifest q k ≡ false → P q) → (q : ManifestId) → P q
@@ -45,14 +38,14 @@ by_id P k here other q = elim (cases_Bool (same_manifest q k)) [
 -- ---- one score is set
 
 -- n has w at k, and is m elsewhere
-pub record OneSet (m n : tree.BTreeMap ManifestId Score) (k : ManifestId) (w : Score) : Type 0 where
+pub record OneSet (m n : Kept) (k : ManifestId) (w : Score) : Type 0 where
   pub here : score_at n k ≡ Some w
   pub other : (q : ManifestId) → same_manifest q k ≡ false → score_at n q ≡ score_at m q
 
-pub one_set : (m n : tree.BTreeMap ManifestId Score) (k : ManifestId) (w : Score) → tree.UpdatesBy derived (derived k) m n (Some w) → OneSet m n k w
+pub one_set : (m n : Kept) (k : ManifestId) (w : Score) → hash.UpdatesBy derived (derived k) m n (Some w) → OneSet m n k w
 one_set m n k w updates =
-    let u : tree.UpdatesBy manifest_cmp (manifest_cmp k) m n (Some w) = updates in
-    record { here = u.1; other = λ q apart. u.2 q (apart_keys q k apart) }
+    let u : hash.UpdatesBy same_manifest (same_manifest k) m n (Some w) = updates in
+    record { here = u.1; other = λ q apart. u.2 q (apart_back q k apart) }
 
 no_more : (a b : ℕ) → a ≡ b → a ≡ b + 0
 no_more a b e = omega arith
@@ -60,7 +53,7 @@ no_more a b e = omega arith
 no_less : (a b : ℕ) → a ≡ b → a ≡ b - 0
 no_less a b e = omega arith
 
-module _ (m n : tree.BTreeMap ManifestId Score) where
+module _ (m n : Kept) where
   pub added : (s : Standing) (w : Score) → OneSet m n s.id w → w.stamp ≡ s.stamp → w.hooks ≡ hooks_at m s.id + 1 → HasAdded m n s
   added s w to stamp hooks = record {
     hooks = by_id (λ q. hooks_at n q ≡ hooks_at m q + one_if (same_manifest q s.id)) s.id
@@ -129,7 +122,7 @@ module _ (stood : List Standing) (i : ℕ) (d : Standing) (once : StandsOnce sto
   apart_here q same =
       subst (λ (x : ManifestId). stands_in x (take i stood) ≡ false) (sym (same_manifest-true q (get_or stood i d).id same)) (fresh stood i d once below)
 
-  pub lowered_more : (old mid new : tree.BTreeMap ManifestId Score) → HasLowered old mid (take i stood) → HasTaken mid new (get_or stood i d).id → HasLowered old new (take (i + 1) stood)
+  pub lowered_more : (old mid new : Kept) → HasLowered old mid (take i stood) → HasTaken mid new (get_or stood i d).id → HasLowered old new (take (i + 1) stood)
   lowered_more old mid new so to = record {
     hooks = λ q.
         to.hooks q ∙ ap (λ n. n - one_if (same_manifest q (get_or stood i d).id)) (so.hooks q)
@@ -158,7 +151,7 @@ module _ (stood : List Standing) (i : ℕ) (d : Standing) (once : StandsOnce sto
   still_there : (x : Standing) → In x (take i stood) → In x (take (i + 1) stood)
   still_there x there = subst (λ (l : List Standing). In x l) (sym (take_more stood i d below)) (in_append_left x (take i stood) (get_or stood i d ∷ []) there)
 
-  pub added_more : (old mid new : tree.BTreeMap ManifestId Score) → HasAddedList old mid (take i stood) → HasAdded mid new (get_or stood i d) → HasAddedList old new (take (i + 1) stood)
+  pub added_more : (old mid new : Kept) → HasAddedList old mid (take i stood) → HasAdded mid new (get_or stood i d) → HasAddedList old new (take (i + 1) stood)
   added_more old mid new so to = record {
     hooks = λ q. to.hooks q ∙ ap (λ n. n + one_if (same_manifest q (get_or stood i d).id)) (so.hooks q) ∙ count_more stood i d once below (hooks_at old q) q;
     stamps = λ q t is. elim (cases_Bool (same_manifest q (get_or stood i d).id)) [
@@ -172,18 +165,18 @@ module _ (stood : List Standing) (i : ℕ) (d : Standing) (once : StandsOnce sto
   }
 
   -- the next one has not been counted
-  pub uncounted : (old mid : tree.BTreeMap ManifestId Score) → HasAddedList old mid (take i stood) → hooks_at mid (get_or stood i d).id ≡ hooks_at old (get_or stood i d).id
+  pub uncounted : (old mid : Kept) → HasAddedList old mid (take i stood) → hooks_at mid (get_or stood i d).id ≡ hooks_at old (get_or stood i d).id
   uncounted old mid so =
       so.hooks (get_or stood i d).id ∙ ap (λ b. hooks_at old (get_or stood i d).id + one_if b) (fresh stood i d once below)
       ∙ sym (no_more (hooks_at old (get_or stood i d).id) (hooks_at old (get_or stood i d).id) refl)
 
-pub added_none : (m : tree.BTreeMap ManifestId Score) → HasAddedList m m []
+pub added_none : (m : Kept) → HasAddedList m m []
 added_none m = record {
   hooks = λ q. no_more (hooks_at m q) (hooks_at m q) refl ∙ ap (λ b. hooks_at m q + one_if b) (sym (none_stands q));
   stamps = λ q t is. inl is;
 }
 
-pub lowered_none : (m : tree.BTreeMap ManifestId Score) → HasLowered m m []
+pub lowered_none : (m : Kept) → HasLowered m m []
 lowered_none m = record {
   hooks = λ q. no_less (hooks_at m q) (hooks_at m q) refl ∙ ap (λ b. hooks_at m q - one_if b) (sym (none_stands q));
   stamps = λ q. refl;

@@ -1,14 +1,12 @@
 -- The lists of the hooks, of which some are covered (this project's own).
 use Rattle.std.specs.Prelude.{ℕ, ◌≡◌, ◌+◌, ◌==◌, Bool, ◌||◌, List, [], ◌∷◌, ◌++◌, map, filter, Some, Vec, Contains, ◌⊎◌, if◌then◌else◌}
 use Rattle.std.specs.declared.alloc.Global.{Global}
-use Rattle.std.specs.BTreeMap as tree
 use Rattle.ss_base.specs.declared.ids.ManifestId.{ManifestId}
 use Rattle.ss_base.specs.declared.ids.Standing.{Standing}
 use Rattle.ss_base.specs.Ids.{same_manifest}
 use Rattle.ss_base.specs.Champions.{stands_in, hooks_covered, candidates}
 use Rattle.ss_base.proofs.MemberLaws.{In}
-use Rattle.champion_choice.specs.declared.score.Score.{Score}
-use Rattle.champion_choice.specs.Scores.{hooks_at, stamp_at, one_if}
+use Rattle.champion_choice.specs.Scores.{Kept, hooks_at, stamp_at, one_if}
 
 -- the lists that these vectors hold
 abbrev pub standings : List (Vec Standing Global) → List (List Standing)
@@ -39,11 +37,11 @@ abbrev pub covered_by : ManifestId → List (List Standing) → List (List Stand
 covered_by id lists = filter (stands_in id) lists
 
 -- each manifest in the list stands at one hook more, and has its stamp there
-pub record HasAddedList (old new : tree.BTreeMap ManifestId Score) (stood : List Standing) : Type 0 where
+pub record HasAddedList (old new : Kept) (stood : List Standing) : Type 0 where
   pub hooks : (q : ManifestId) → hooks_at new q ≡ hooks_at old q + one_if (stands_in q stood)
   pub stamps : (q : ManifestId) (t : ℕ) → stamp_at new q ≡ Some t → (stamp_at old q ≡ Some t) ⊎ In (record { id = q; stamp = t }) stood
 
 -- the scores are those of the lists
-pub record IsScored (scores : tree.BTreeMap ManifestId Score) (lists : List (List Standing)) : Type 0 where
+pub record IsScored (scores : Kept) (lists : List (List Standing)) : Type 0 where
   pub hooks : (q : ManifestId) → hooks_at scores q ≡ hooks_covered lists q
   pub stamps : (q : ManifestId) (t : ℕ) → stamp_at scores q ≡ Some t → In (record { id = q; stamp = t }) (candidates lists)

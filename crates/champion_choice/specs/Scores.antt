@@ -2,27 +2,32 @@
 use Rattle.std.specs.Prelude.{ℕ, ◌≡◌, ◌+◌, ◌-◌, ◌==◌, Bool, ◌&&◌, ◌||◌, nat_lt, nat_le, cond, List, [], ◌∷◌, Option, None, Some, if◌then◌else◌}
 use Rattle.std.specs.List.{IsDistinct}
 use Rattle.std.specs.Option.{option_map}
-use Rattle.std.specs.BTreeMap as tree
+use Rattle.std.specs.HashMap as hash
+use Rattle.std.specs.declared.hash.BuildHasherDefault.{BuildHasherDefault}
+use Rattle.std.specs.declared.hash.FoldHasher.{FoldHasher}
 use Rattle.ss_base.specs.declared.ids.ManifestId.{ManifestId}
 use Rattle.ss_base.specs.declared.ids.Standing.{Standing}
 use Rattle.ss_base.specs.Ids.{same_manifest}
-use Rattle.ss_base.specs.Order.{manifest_cmp}
 use Rattle.ss_base.specs.Champions.{stands_in}
 use Rattle.champion_choice.specs.declared.score.Score.{Score}
 
-abbrev pub score_at : tree.BTreeMap ManifestId Score → ManifestId → Option Score
-score_at m id = tree.get manifest_cmp m id
+-- a score for each manifest that was counted
+abbrev pub Kept : Type 0
+Kept = hash.HashMap ManifestId Score (BuildHasherDefault FoldHasher)
+
+abbrev pub score_at : Kept → ManifestId → Option Score
+score_at m id = hash.get same_manifest m id
 
 abbrev pub hooks_in : Option Score → ℕ
 hooks_in None = 0
 hooks_in (Some score) = score.hooks
 
 -- at how many hooks the manifest stands
-abbrev pub hooks_at : tree.BTreeMap ManifestId Score → ManifestId → ℕ
+abbrev pub hooks_at : Kept → ManifestId → ℕ
 hooks_at m id = hooks_in (score_at m id)
 
 -- the manifest's stamp, where it has a score
-abbrev pub stamp_at : tree.BTreeMap ManifestId Score → ManifestId → Option ℕ
+abbrev pub stamp_at : Kept → ManifestId → Option ℕ
 stamp_at m id = option_map (λ score. score.stamp) (score_at m id)
 
 -- 1 where the test holds
@@ -30,17 +35,17 @@ abbrev pub one_if : Bool → ℕ
 one_if test = cond test 1 0
 
 -- what stands at one hook more
-pub record HasAdded (old new : tree.BTreeMap ManifestId Score) (standing : Standing) : Type 0 where
+pub record HasAdded (old new : Kept) (standing : Standing) : Type 0 where
   pub hooks : (q : ManifestId) → hooks_at new q ≡ hooks_at old q + one_if (same_manifest q standing.id)
   pub stamps : (q : ManifestId) → stamp_at new q ≡ (if same_manifest q standing.id then Some standing.stamp else stamp_at old q)
 
 -- the manifest stands at one hook less
-pub record HasTaken (old new : tree.BTreeMap ManifestId Score) (id : ManifestId) : Type 0 where
+pub record HasTaken (old new : Kept) (id : ManifestId) : Type 0 where
   pub hooks : (q : ManifestId) → hooks_at new q ≡ hooks_at old q - one_if (same_manifest q id)
   pub stamps : (q : ManifestId) → stamp_at new q ≡ stamp_at old q
 
 -- each manifest in the list stands at one hook less
-pub record HasLowered (old new : tree.BTreeMap ManifestId Score) (stood : List Standing) : Type 0 where
+pub record HasLowered (old new : Kept) (stood : List Standing) : Type 0 where
   pub hooks : (q : ManifestId) → hooks_at new q ≡ hooks_at old q - one_if (stands_in q stood)
   pub stamps : (q : ManifestId) → stamp_at new q ≡ stamp_at old q
 

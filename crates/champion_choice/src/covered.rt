@@ -9,7 +9,7 @@ ghost use Rattle.champion_choice.specs.Lists.{standings, left, remaining, marked
 use crate::score::{Score, add_one, lower};
 use ss_base::{ManifestId, Memory, Standing};
 use std::alloc::Global;
-use std::collections::BTreeMap;
+use std::collections::HashMap;
 
 fn same_manifest(a: ManifestId, b: ManifestId) -> bool
     ensures { result ≡ same_manifest a b }
@@ -25,7 +25,7 @@ pub(crate) fn stands_in(id: ManifestId, stood: &[Standing]) -> bool
 }
 
 // Counts one hook more for each manifest in its list.
-fn add_list(scores: &mut BTreeMap<ManifestId, Score>, stood: &[Standing]) -> Result<(), Memory>
+fn add_list(scores: &mut HashMap<ManifestId, Score>, stood: &[Standing]) -> Result<(), Memory>
     requires once { StandsOnce stood.now }
     requires room { (q : Id) → hooks_at scores.old q < 2 ^ 64 - 1 }
     ensures { OnOk result (HasAddedList scores.old scores.new stood.now) }
@@ -40,11 +40,11 @@ fn add_list(scores: &mut BTreeMap<ManifestId, Score>, stood: &[Standing]) -> Res
 pub(crate) fn scores_of(
     alloc: Global,
     lists: &[Vec<Standing>],
-) -> Result<BTreeMap<ManifestId, Score>, Memory>
+) -> Result<HashMap<ManifestId, Score>, Memory>
     requires { All StandsOnce (standings lists.now) }
     ensures { IfOk result (λ scores. IsScored scores (standings lists.now)) }
 {
-    let mut scores = BTreeMap::new(alloc);
+    let mut scores = HashMap::new(alloc);
     for stood in lists {
         add_list(&mut scores, stood.as_slice())?;
     }
@@ -53,7 +53,7 @@ pub(crate) fn scores_of(
 
 // Lowers the scores of what stands at one hook, where it is uncovered and the manifest stands there.
 fn lower_hook(
-    scores: &mut BTreeMap<ManifestId, Score>,
+    scores: &mut HashMap<ManifestId, Score>,
     stood: &[Standing],
     covered: bool,
     id: ManifestId,
@@ -73,7 +73,7 @@ fn lower_hook(
 
 // Lowers the scores of what stands at the uncovered hooks at which the manifest stands.
 pub(crate) fn lower_at(
-    scores: &mut BTreeMap<ManifestId, Score>,
+    scores: &mut HashMap<ManifestId, Score>,
     lists: &[Vec<Standing>],
     covered: &[bool],
     id: ManifestId,

@@ -1,6 +1,8 @@
 -- How the numbers and what is gone are kept.
 use Rattle.std.specs.Prelude.{ℕ, ◌≡◌, ◌≤◌, Bool, true, false, cond, List, [], ◌∷◌, map, Option, None, Some, unwrap_or, is_some}
-use Rattle.std.specs.BTreeMap as tree
+use Rattle.std.specs.HashMap as hash
+use Rattle.std.specs.declared.hash.BuildHasherDefault.{BuildHasherDefault}
+use Rattle.std.specs.declared.hash.FoldHasher.{FoldHasher}
 use Rattle.std.specs.FinMap as map
 use Rattle.std.specs.FinSet as set
 use Rattle.ss_base.specs.declared.object.Object.{Object}
@@ -10,9 +12,13 @@ use Rattle.pins_counts.specs.declared.fact.Run.{Run}
 use Rattle.ss_base.specs.Ids.{same_object}
 use Rattle.ss_base.specs.Order.{object_cmp}
 
--- what the tree has at an object
-abbrev pub fact_at : tree.BTreeMap Object Fact → Object → Option Fact
-fact_at m q = tree.get object_cmp m q
+-- the facts as they are kept, by their objects
+abbrev pub Kept : Type 0
+Kept = hash.HashMap Object Fact (BuildHasherDefault FoldHasher)
+
+-- what is kept of an object
+abbrev pub fact_at : Kept → Object → Option Fact
+fact_at m q = hash.get same_object m q
 
 -- of an object without an entry: the number 0, and not gone
 abbrev pub nothing : Fact
@@ -23,7 +29,7 @@ abbrev pub fact_or_nothing : Option Fact → Fact
 fact_or_nothing found = unwrap_or found nothing
 
 -- n has w at k, and is m elsewhere
-pub record OneSet (m n : tree.BTreeMap Object Fact) (k : Object) (w : Fact) : Type 0 where
+pub record OneSet (m n : Kept) (k : Object) (w : Fact) : Type 0 where
   pub here : fact_at n k ≡ Some w
   pub other : (q : Object) → same_object q k ≡ false → fact_at n q ≡ fact_at m q
 
@@ -61,12 +67,12 @@ run_in None = None
 run_in (Some f) = f.gone
 
 -- the objects from the run's first to this one, and from this one to the run's last, are gone
-pub record Claims (m : tree.BTreeMap Object Fact) (q : Object) (run : Run) : Type 0 where
+pub record Claims (m : Kept) (q : Object) (run : Run) : Type 0 where
   pub before : (n : ℕ) → run.first ≤ n → n ≤ place_of q → gone_in (fact_at m (at_place q n)) ≡ true
   pub after : (n : ℕ) → place_of q ≤ n → n ≤ run.last → gone_in (fact_at m (at_place q n)) ≡ true
 
 -- what each object knows of its neighbours is so
-pub record IsSound (m : tree.BTreeMap Object Fact) : Type 0 where
+pub record IsSound (m : Kept) : Type 0 where
   pub claims : (q : Object) (run : Run) → run_in (fact_at m q) ≡ Some run → Claims m q run
 
 -- the number of what is found, and whether it says that the object is gone

@@ -8,12 +8,12 @@ ghost use Rattle.ss_base.specs.KnownObjects.{numbered};
 ghost use Rattle.pins_counts.specs.Counts.{number, is_ready, is_gone, one_if, object_of, is_idle};
 ghost use Rattle.pins_counts.specs.Waiting.{ended_at, objects_at, IsQuiet};
 
-use crate::fact::{Fact, fact_of, make_fact, set_fact};
+use crate::fact::{Fact, fact_of, lower, make_fact, raise};
 use crate::kind::Kind;
 use crate::run::{after_gone, set_gone};
 use ss_base::{Ended, Memory, Object};
 use std::alloc::Global;
-use std::collections::BTreeMap;
+use std::collections::HashMap;
 use std::marker::Model;
 
 const MAX_SESSIONS: usize = 4_294_967_294;
@@ -23,7 +23,7 @@ const MAX_SESSIONS: usize = 4_294_967_294;
 pub(crate) struct Tally {
     sessions: Vec<Option<Ended>>,
     room: usize,
-    facts: BTreeMap<Object, Fact>,
+    facts: HashMap<Object, Fact>,
 }
 
 impl Model for Tally {
@@ -48,7 +48,7 @@ impl Tally {
         Tally {
             sessions: Vec::new(alloc),
             room: 0,
-            facts: BTreeMap::new(alloc),
+            facts: HashMap::new(alloc),
         }
     }
 
@@ -116,15 +116,7 @@ impl Tally {
         ensures ready { (q : Stored) → is_ready self.new q ≡ is_ready self.old q }
         ensures rest { self.new ≡ record self.old { numbers = self.new.numbers } }
     {
-        let fact = fact_of(&self.facts, object);
-        set_fact(
-            &mut self.facts,
-            object,
-            Fact {
-                number: fact.number + 1,
-                ..fact
-            },
-        );
+        raise(&mut self.facts, object);
     }
 
     // Takes one from the object's number, and says what is left.
@@ -136,16 +128,7 @@ impl Tally {
         ensures rest { self.new ≡ record self.old { numbers = self.new.numbers } }
         ensures left { number self.old object ≡ result + 1 }
     {
-        let fact = fact_of(&self.facts, object);
-        set_fact(
-            &mut self.facts,
-            object,
-            Fact {
-                number: fact.number - 1,
-                ..fact
-            },
-        );
-        fact.number - 1
+        lower(&mut self.facts, object)
     }
 
     // Adds the object to those that are gone.

@@ -1,4 +1,4 @@
 pub mod BoundLaws
-pub mod TreeLaws
+pub mod KeptLaws
 pub mod LoopLaws
 pub mod TestLaws

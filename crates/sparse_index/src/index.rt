@@ -8,11 +8,11 @@ ghost use Rattle.ss_base.specs.Champions.{stands_in};
 ghost use Rattle.ss_base.specs.Standings.{in_front, promoted, without_manifest};
 ghost use Rattle.sparse_index.specs.Lists.{list_at, is_ready, HasRoom, Changes};
 
-use crate::tree::{is_kept, keep, list_of, promote_at, put_at, retire_at};
+use crate::kept::{is_kept, keep, list_of, promote_at, put_at, retire_at};
 use arrayvec::ArrayVec;
 use ss_base::{ManifestId, Memory, Name, Standing};
 use std::alloc::Global;
-use std::collections::BTreeMap;
+use std::collections::HashMap;
 use std::marker::Model;
 
 /// Which manifests stand at each hook, at most `L`, the most recently used first. Contracts see a map from names to
@@ -20,13 +20,13 @@ use std::marker::Model;
 /// kept for it; it stays ready.
 #[derive(Drop)]
 pub struct Index<const L: usize> {
-    lists: BTreeMap<Name, ArrayVec<Standing, L>>,
+    lists: HashMap<Name, ArrayVec<Standing, L>>,
 }
 
 impl<const L: usize> Model for Index<L> {
     ghost use Rattle.std.specs.Prelude.{◌≤◌};
     ghost use Rattle.sparse_index.specs.Lists.{Lists, lists_code};
-    ghost use Rattle.sparse_index.specs.Tree.{lists_of};
+    ghost use Rattle.sparse_index.specs.Kept.{lists_of};
 
     ghost Value = { Lists };
 
@@ -44,7 +44,7 @@ impl<const L: usize> Index<L> {
         ensures { result ≡ map.empty }
     {
         Index {
-            lists: BTreeMap::new(alloc),
+            lists: HashMap::new(alloc),
         }
     }
 

@@ -2,8 +2,8 @@
 #![tactic(auto)]
 
 mod index;
+mod kept;
 mod list;
-mod tree;
 
 pub use index::Index;
 

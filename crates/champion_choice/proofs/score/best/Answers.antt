@@ -12,4 +12,4 @@ returns-clause-found c =
     let m = c.args.scores.now in
     let same : c.loop-id.best ≡ best_from None m.entries = ap (λ es. best_from c.loop-id.best es) (sym c.in-None.ensures.steps.0) ∙ c.loop-id.invariant in
     subst (λ (o : Option (ManifestId × Score)). IfSome o (λ (e : ManifestId × Score). score_at m e.0 ≡ Some e.1)) (sym same)
-    (found_best m c.into_iter-id-iterator.ensures.into_iter_gives.6 (best_from None m.entries) (best_of m.entries))
+    (found_best m c.into_iter-id-iterator.ensures.into_iter_gives.4 (best_from None m.entries) (best_of m.entries))

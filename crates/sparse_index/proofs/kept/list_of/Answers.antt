@@ -1,8 +1,8 @@
 use Rattle.std.proofs.Common.{◌≡◌, Some, None, sym, ap, ◌∙◌}
 use Rattle.std.specs.Option.{option_copied}
-use Rattle.sparse_index.specs.Tree.{kept_at, items_in}
-use Rattle.sparse_index.proofs.TreeLaws.{list_is}
-use Rattle.sparse_index.proofs.tree.list_of.Goals as goal
+use Rattle.sparse_index.specs.Kept.{kept_at, items_in}
+use Rattle.sparse_index.proofs.KeptLaws.{list_is}
+use Rattle.sparse_index.proofs.kept.list_of.Goals as goal
 
 pub returns-in-Some : goal.returns-in-Some
 returns-in-Some g c =

@@ -1,6 +1,6 @@
 use Rattle.std.proofs.Common.{sym, ◌∙◌}
-use Rattle.sparse_index.proofs.TreeLaws.{one_set, made, kept_already, none_kept}
-use Rattle.sparse_index.proofs.tree.keep.Goals as goal
+use Rattle.sparse_index.proofs.KeptLaws.{one_set, made, kept_already, none_kept}
+use Rattle.sparse_index.proofs.kept.keep.Goals as goal
 
 pub returns-in_ok-insert-clause-ok : goal.returns-in_ok-insert-clause-ok
 returns-in_ok-insert-clause-ok g c =

@@ -1,14 +1,10 @@
 use Rattle.std.proofs.Common.{◌≡◌, Some, None, rules, sym, ap, ◌∙◌, subst}
 use Rattle.std.specs.Option.{option_copied_mut}
-use Rattle.std.specs.BTreeMap.{BTreeMap}
-use Rattle.arrayvec.specs.ArrayVec.{ArrayVec}
-use Rattle.ss_base.specs.declared.ids.Standing.{Standing}
-use Rattle.ss_base.specs.declared.name.Name.{Name}
 use Rattle.ss_base.specs.Standings.{without_manifest}
 use Rattle.sparse_index.specs.Lists.{Changes}
-use Rattle.sparse_index.specs.Tree.{kept_at, lists_of}
-use Rattle.sparse_index.proofs.TreeLaws.{one_set, changed, unchanged}
-use Rattle.sparse_index.proofs.tree.retire_at.Goals as goal
+use Rattle.sparse_index.specs.Kept.{Kept, kept_at, lists_of}
+use Rattle.sparse_index.proofs.KeptLaws.{one_set, changed, unchanged}
+use Rattle.sparse_index.proofs.kept.retire_at.Goals as goal
 
 pub returns-in-Some : goal.returns-in-Some
 returns-in-Some g c =
@@ -23,4 +19,4 @@ returns-in_default g c =
     let m = c.args.lists.now in
     let k = c.args.hook.now in
     let is : kept_at m k ≡ None = sym c.get_mut.ensures.value ∙ ap option_copied_mut c.in_default.is in
-    subst (λ (n : BTreeMap Name (ArrayVec Standing)). Changes (lists_of m.entries) (lists_of n.entries) k (without_manifest c.args.id)) (sym c.get_mut.follows.holds-at-none) (unchanged m k (without_manifest c.args.id) is)
+    subst (λ (n : Kept). Changes (lists_of m.entries) (lists_of n.entries) k (without_manifest c.args.id)) (sym c.get_mut.follows.holds-at-none) (unchanged m k (without_manifest c.args.id) is)
