@@ -1,5 +1,5 @@
 -- One more entry of a journal.
-use Rattle.std.proofs.Common.{◌≡◌, ℕ, ◌+◌, ◌-◌, ◌^◌, ◌<◌, ◌≤◌, ◌⊎◌, List, [], ◌∷◌, ◌++◌, length, inl, inr, ap, ◌∙◌, arith}
+use Rattle.std.proofs.Common.{◌≡◌, ℕ, ◌+◌, ◌-◌, ◌<◌, ◌≤◌, ◌⊎◌, List, [], ◌∷◌, ◌++◌, length, inl, inr, ap, ◌∙◌, arith}
 use Rattle.std.proofs.lemmas.List.{length-append, append-nil}
 use Rattle.std.proofs.lemmas.List.Concat.{flat_map-append}
 use Rattle.journal_entry.specs.declared.entry.Entry.{Entry}
@@ -7,12 +7,13 @@ use Rattle.journal_entry.specs.Bounds.{IsEntry}
 use Rattle.journal_entry.specs.EntryText.{entry_text, entries_text}
 use Rattle.journal_entry.specs.Weight.{point_weight}
 use Rattle.journal_entry.proofs.WeightLaws.{weight_push}
+use Rattle.journal_file.specs.declared.limits.TheConstants.{MAX_ENTRIES, MAX_WEIGHT}
 use Rattle.journal_file.specs.Journal.{FitsJournal}
 use Rattle.journal_file.specs.Scan.{AreFound}
 use Rattle.journal_file.proofs.ReadLaws.{AllByRecursion-snoc}
 
 -- an entry for which there is room
-pub found_more : (entries : List Entry) (entry : Entry) (sum place weight_of len : ℕ) → AreFound entries sum place → IsEntry entry → len ≡ length (entry_text entry) → weight_of ≡ point_weight entry.point → (length entries ≡ 2 ^ 20 → ⊥) → weight_of ≤ 2 ^ 24 - sum
+pub found_more : (entries : List Entry) (entry : Entry) (sum place weight_of len : ℕ) → AreFound entries sum place → IsEntry entry → len ≡ length (entry_text entry) → weight_of ≡ point_weight entry.point → (length entries ≡ MAX_ENTRIES → ⊥) → weight_of ≤ MAX_WEIGHT - sum
     → AreFound (entries ++ entry ∷ []) (sum + weight_of) (place + len)
 found_more entries entry sum place weight_of len found valid is_len is_weight room light =
     let total = weight_push entries entry in
@@ -29,6 +30,6 @@ found_more entries entry sum place weight_of len found valid is_len is_weight ro
     }
 
 -- an entry for which there is none
-pub full : (entries : List Entry) (entry : Entry) (sum place weight_of : ℕ) → AreFound entries sum place → weight_of ≡ point_weight entry.point → (length entries ≡ 2 ^ 20) ⊎ (2 ^ 24 - sum < weight_of) → FitsJournal (entries ++ entry ∷ []) → ⊥
+pub full : (entries : List Entry) (entry : Entry) (sum place weight_of : ℕ) → AreFound entries sum place → weight_of ≡ point_weight entry.point → (length entries ≡ MAX_ENTRIES) ⊎ (MAX_WEIGHT - sum < weight_of) → FitsJournal (entries ++ entry ∷ []) → ⊥
 full entries entry sum place weight_of found is_weight (inl count) fits = absurd (omega (arith, count, fits.count, length-append entries (entry ∷ [])))
 full entries entry sum place weight_of found is_weight (inr heavy) fits = absurd (omega (arith, heavy, is_weight, found.sum_is, fits.weight, weight_push entries entry))

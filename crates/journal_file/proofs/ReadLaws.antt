@@ -5,6 +5,7 @@ use Rattle.std.specs.List.{AllByRecursion}
 use Rattle.std.specs.declared.alloc.Global.{Global}
 use Rattle.std.proofs.lemmas.List.{length-append, append-nil}
 use Rattle.std.proofs.lemmas.Grind.{flat_map-append}
+use Rattle.ss_base.specs.declared.limits.TheConstants.{PIECE_LEN}
 use Rattle.ss_base.specs.declared.profile.Profile.{Profile}
 use Rattle.journal_entry.specs.declared.entry.Entry.{Entry}
 use Rattle.journal_entry.specs.EntryText.{entries_text}
@@ -64,19 +65,19 @@ count_reads-more : (first : ℕ) (pieces : List (List ℕ)) (piece : List ℕ) �
 count_reads-more first [] piece = refl
 count_reads-more first (p ∷ pieces) piece = count_reads-more (next_read first) pieces piece
 
-reads_from-append : (place : ℕ) (pieces : List (List ℕ)) (piece : List ℕ) → reads_from place (pieces ++ piece ∷ []) ≡ reads_from place pieces ++ read_of journal_name (place + length (joined pieces)) 65536 piece ∷ []
-reads_from-append place [] piece = ap (λ n. read_of journal_name n 65536 piece ∷ []) (omega arith)
+reads_from-append : (place : ℕ) (pieces : List (List ℕ)) (piece : List ℕ) → reads_from place (pieces ++ piece ∷ []) ≡ reads_from place pieces ++ read_of journal_name (place + length (joined pieces)) PIECE_LEN piece ∷ []
+reads_from-append place [] piece = ap (λ n. read_of journal_name n PIECE_LEN piece ∷ []) (omega arith)
 reads_from-append place (p ∷ pieces) piece =
-    ap (λ (l : List Given). read_of journal_name place 65536 p ∷ l)
+    ap (λ (l : List Given). read_of journal_name place PIECE_LEN p ∷ l)
     (reads_from-append (place + length p) pieces piece
-    ∙ ap (λ n. reads_from (place + length p) pieces ++ read_of journal_name n 65536 piece ∷ []) (omega (arith, length-append p (joined pieces))))
+    ∙ ap (λ n. reads_from (place + length p) pieces ++ read_of journal_name n PIECE_LEN piece ∷ []) (omega (arith, length-append p (joined pieces))))
 
 with_reads-more : (told : Option (List Given)) (pieces : List (List ℕ)) (piece : List ℕ) (place : ℕ) → place ≡ length (joined pieces)
-    → one_more (with_reads told pieces) (read_of journal_name place 65536 piece) ≡ with_reads told (pieces ++ piece ∷ [])
+    → one_more (with_reads told pieces) (read_of journal_name place PIECE_LEN piece) ≡ with_reads told (pieces ++ piece ∷ [])
 with_reads-more None pieces piece place is = refl
 with_reads-more (Some gave) pieces piece place is =
-    ap Some (append_assoc gave (reads_from 0 pieces) (read_of journal_name place 65536 piece ∷ [])
-    ∙ ap (λ (l : List Given). gave ++ l) (ap (λ n. reads_from 0 pieces ++ read_of journal_name n 65536 piece ∷ []) (omega (arith, is)) ∙ sym (reads_from-append 0 pieces piece)))
+    ap Some (append_assoc gave (reads_from 0 pieces) (read_of journal_name place PIECE_LEN piece ∷ [])
+    ∙ ap (λ (l : List Given). gave ++ l) (ap (λ n. reads_from 0 pieces ++ read_of journal_name n PIECE_LEN piece ∷ []) (omega (arith, is)) ∙ sym (reads_from-append 0 pieces piece)))
 
 pub AllByRecursion-snoc : {A : Type 0} (P : A → Type 0) (xs : List A) (x : A) → AllByRecursion P xs → P x → AllByRecursion P (xs ++ x ∷ [])
 AllByRecursion-snoc P [] x all here = (here, tt)
@@ -88,20 +89,20 @@ joined-more pieces piece = flat_map-append (λ (p : List ℕ). p) pieces (piece 
 -- what an exclusive shelf has behind one more piece
 told_more : (held : Option Objects) (text piece : List ℕ) (place : ℕ)
     → IfSome held (λ objects. bytes_of objects journal_name ≡ text ++ drop place (bytes_of objects journal_name))
-    → IfSome held (λ objects. piece ≡ part_of (bytes_of objects journal_name) place 65536)
+    → IfSome held (λ objects. piece ≡ part_of (bytes_of objects journal_name) place PIECE_LEN)
     → IfSome held (λ objects. bytes_of objects journal_name ≡ (text ++ piece) ++ drop (place + length piece) (bytes_of objects journal_name))
 told_more None text piece place told given = tt
 told_more (Some objects) text piece place told given =
-    told ∙ ap (λ (l : List ℕ). text ++ l) (part_of-rest (bytes_of objects journal_name) piece place 65536 given)
+    told ∙ ap (λ (l : List ℕ). text ++ l) (part_of-rest (bytes_of objects journal_name) piece place PIECE_LEN given)
     ∙ sym (append_assoc text piece (drop (place + length piece) (bytes_of objects journal_name)))
 
 module _ (held : Option Objects) (old gave new : Option (List Given)) (first last now : ℕ) (text piece : List ℕ) (place : ℕ) (before : IsSoFar held old gave first last text place)
     (counted : now ≡ next_read last)
-    (read : new ≡ one_more gave (read_of journal_name place 65536 piece))
-    (given : IfSome held (λ objects. piece ≡ part_of (bytes_of objects journal_name) place 65536)) where
+    (read : new ≡ one_more gave (read_of journal_name place PIECE_LEN piece))
+    (given : IfSome held (λ objects. piece ≡ part_of (bytes_of objects journal_name) place PIECE_LEN)) where
   gave_more : new ≡ with_reads old (before.pieces ++ piece ∷ [])
   gave_more =
-      read ∙ ap (λ (o : Option (List Given)). one_more o (read_of journal_name place 65536 piece)) before.gave
+      read ∙ ap (λ (o : Option (List Given)). one_more o (read_of journal_name place PIECE_LEN piece)) before.gave
       ∙ with_reads-more old before.pieces piece place (before.place_is ∙ sym (ap length before.joined_is))
 
   count_more : now ≡ count_reads first (before.pieces ++ piece ∷ [])
@@ -156,19 +157,19 @@ ends_with (Err fault) pieces end = inr end
 
 module _ (held : Option Objects) (old gave new : Option (List Given)) (first last now : ℕ) (text piece : List ℕ) (place : ℕ) (before : IsSoFar held old gave first last text place)
     (counted : now ≡ next_read last)
-    (read : new ≡ one_more gave (read_of journal_name place 65536 piece))
-    (given : IfSome held (λ objects. piece ≡ part_of (bytes_of objects journal_name) place 65536)) where
+    (read : new ≡ one_more gave (read_of journal_name place PIECE_LEN piece))
+    (given : IfSome held (λ objects. piece ≡ part_of (bytes_of objects journal_name) place PIECE_LEN)) where
   -- after the read that gave nothing
   module _ (none : piece ≡ []) (result : Result (Profile × Vec Entry Global) JournalFault) (end : IsEnd result text) where
     pub end_told : IfSome held (λ objects. IsAnswer result (bytes_of objects journal_name))
     end_told = told held before.told given
       where
         told : (held : Option Objects) → IfSome held (λ objects. bytes_of objects journal_name ≡ text ++ drop place (bytes_of objects journal_name))
-            → IfSome held (λ objects. piece ≡ part_of (bytes_of objects journal_name) place 65536) → IfSome held (λ objects. IsAnswer result (bytes_of objects journal_name))
+            → IfSome held (λ objects. piece ≡ part_of (bytes_of objects journal_name) place PIECE_LEN) → IfSome held (λ objects. IsAnswer result (bytes_of objects journal_name))
         told None so_far given = tt
         told (Some objects) so_far given =
             let bytes = bytes_of objects journal_name in
-            let rest : drop place bytes ≡ [] = part_of-end bytes place 65536 (omega arith) (sym given ∙ none) in
+            let rest : drop place bytes ≡ [] = part_of-end bytes place PIECE_LEN (omega arith) (sym given ∙ none) in
             subst (λ (t : List ℕ). IsAnswer result t) (sym (so_far ∙ ap (λ (l : List ℕ). text ++ l) rest ∙ append-nil text)) (answer_of result text end)
 
     pub end_gave : HasRead old new first now result

@@ -3,6 +3,7 @@ use Rattle.std.specs.Prelude.{◌≡◌, ◌≢◌, ℕ, ◌+◌, List, [], ◌�
 use Rattle.std.specs.Option.{option_map}
 use Rattle.std.specs.List.{AllByRecursion, flat_map}
 use Rattle.std.specs.declared.alloc.Global.{Global}
+use Rattle.ss_base.specs.declared.limits.TheConstants.{PIECE_LEN}
 use Rattle.ss_base.specs.declared.profile.Profile.{Profile}
 use Rattle.journal_entry.specs.declared.entry.Entry.{Entry}
 use Rattle.outside.specs.Shelf.{Given, read_of, next_read}
@@ -23,10 +24,10 @@ abbrev pub IsAnswer : Result (Profile × Vec Entry Global) JournalFault → List
 IsAnswer (Ok found) bytes = IsJournal bytes found.0 found.1.items
 IsAnswer (Err fault) bytes = IsRefusedBy fault bytes
 
--- reads of the journal in pieces of at most 65,536 bytes, each from where the one before ended
+-- reads of the journal in pieces of at most `PIECE_LEN` bytes, each from where the one before ended
 abbrev pub reads_from : ℕ → List (List ℕ) → List Given
 reads_from place [] = []
-reads_from place (piece ∷ pieces) = read_of journal_name place 65536 piece ∷ reads_from (place + length piece) pieces
+reads_from place (piece ∷ pieces) = read_of journal_name place PIECE_LEN piece ∷ reads_from (place + length piece) pieces
 
 -- the pieces in one
 abbrev pub joined : List (List ℕ) → List ℕ

@@ -1,11 +1,12 @@
 -- What the bytes of a journal are (this project's own).
-use Rattle.std.specs.Prelude.{◌≡◌, ◌≢◌, ℕ, ◌^◌, ◌≤◌, List, [], ◌∷◌, ◌++◌, length}
+use Rattle.std.specs.Prelude.{◌≡◌, ◌≢◌, ℕ, ◌≤◌, List, [], ◌∷◌, ◌++◌, length}
 use Rattle.std.specs.List.{AllByRecursion}
 use Rattle.ss_base.specs.declared.profile.Profile.{Profile}
 use Rattle.journal_entry.specs.declared.entry.Entry.{Entry}
 use Rattle.journal_entry.specs.Bounds.{IsEntry, Begins}
 use Rattle.journal_entry.specs.EntryText.{entries_text}
 use Rattle.journal_entry.specs.Weight.{weight}
+use Rattle.journal_file.specs.declared.limits.TheConstants.{MAX_ENTRIES, MAX_WEIGHT}
 use Rattle.journal_file.specs.Header.{header_text}
 
 -- the header, and the texts of the entries
@@ -14,8 +15,8 @@ journal_text profile entries = header_text profile ++ entries_text entries
 
 -- a journal has at most 2^20 entries, and they have at most a weight of 2^24
 pub record FitsJournal (entries : List Entry) : Type 0 where
-  pub count : length entries ≤ 2 ^ 20
-  pub weight : weight entries ≤ 2 ^ 24
+  pub count : length entries ≤ MAX_ENTRIES
+  pub weight : weight entries ≤ MAX_WEIGHT
 
 -- the bytes are a journal of this profile with these entries
 pub record IsJournal (bytes : List ℕ) (profile : Profile) (entries : List Entry) : Type 0 where

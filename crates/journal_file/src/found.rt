@@ -7,12 +7,9 @@ ghost use Rattle.journal_file.specs.Journal.{FitsJournal};
 ghost use Rattle.journal_file.specs.Scan.{longest_entry, AreFound, NoneBegins, NoneWillBegin, IsBadFor, IsBodyFault};
 
 use crate::JournalFault;
+use crate::limits::{MAX_ENTRIES, MAX_WEIGHT};
 use journal_entry::{Entry, Point, decode_entry, point_weight};
 use std::alloc::Global;
-
-const MAX_ENTRIES: usize = 1 << 20;
-
-const MAX_WEIGHT: u32 = 1 << 24;
 
 // The length of the longest text of an entry: that of a choice with the longest lists.
 const LONGEST_ENTRY: usize = 133_124;

@@ -7,6 +7,7 @@ mod fault;
 mod found;
 mod header;
 mod laws;
+mod limits;
 mod reading;
 mod scan;
 
@@ -14,6 +15,7 @@ pub use appending::append;
 pub use creating::create;
 pub use fault::{AppendFault, CreateFault, JournalFault};
 pub use laws::one_answer;
+pub use limits::{MAX_ENTRIES, MAX_WEIGHT};
 pub use reading::read;
 
 #[cfg(test)]

@@ -9,10 +9,8 @@ use crate::JournalFault;
 use crate::scan::Scan;
 use journal_entry::Entry;
 use outside::Shelf;
-use ss_base::Profile;
+use ss_base::{PIECE_LEN, Profile};
 use std::alloc::Global;
-
-const PIECE: usize = 65_536;
 
 /// Reads the journal to its end: after one `has`, pieces of 65,536 bytes, each from where the one before ended, up
 /// to the first that is empty. A refusal may end it sooner. It changes no object.
@@ -36,7 +34,7 @@ pub fn read<S: Shelf>(alloc: Global, shelf: &mut S) -> Result<(Profile, Vec<Entr
     let mut scan = Scan::new(alloc);
     let mut place = 0;
     loop {
-        let piece = shelf.read(alloc, "journal", place, PIECE)?;
+        let piece = shelf.read(alloc, "journal", place, PIECE_LEN)?;
         if piece.is_empty() {
             return scan.finish();
         }
