@@ -1,6 +1,6 @@
 -- How counts of faults go on over several calls.
-use Rattle.std.proofs.Common.{◌≡◌, ◌∙◌, subst, ℕ, ◌+◌, ◌≤◌, Result, Ok, Err, inl, inr, arith}
-use Rattle.outside.specs.Faults.{Rose, RoseBy, UnlessFault, HasCause}
+use Rattle.std.proofs.Common.{◌≡◌, ◌∙◌, subst, ℕ, ◌≤◌, Result, Ok, Err, inl, inr, arith}
+use Rattle.outside.specs.Faults.{Rose, UnlessFault, HasCause}
 use Rattle.outside.specs.declared.trouble.Trouble.{Trouble}
 use Rattle.outside.specs.declared.trouble.Trouble.TheVariants.{Fault, Memory}
 
@@ -30,26 +30,6 @@ HasCause-before a b c result cause later same = record {
     both a b c (Ok x) first second = second ∙ first
     both a b c (Err Fault) first second = tt
     both a b c (Err Memory) first second = second ∙ first
-
--- to rise once is to rise by one
-pub RoseBy-one : (a b : ℕ) → Rose a b → RoseBy 1 a b
-RoseBy-one a b (inl rose) = inl (omega arith)
-RoseBy-one a b (inr last) = inr last
-
--- a count that didn't fall rose no times
-pub RoseBy-none : (a b : ℕ) → a ≤ b → RoseBy 0 a b
-RoseBy-none a b later = inl (omega arith)
-
--- one time after another
-pub RoseBy-sum : (m n a b c : ℕ) → RoseBy m a b → b ≤ c → RoseBy n b c → RoseBy (m + n) a c
-RoseBy-sum m n a b c (inl rose) later (inl again) = inl (omega arith)
-RoseBy-sum m n a b c (inr last) later again = inr (omega arith)
-RoseBy-sum m n a b c rose later (inr last) = inr last
-
--- fewer times
-pub RoseBy-fewer : (m n a b : ℕ) → RoseBy n a b → m ≤ n → RoseBy m a b
-RoseBy-fewer m n a b (inl rose) le = inl (omega arith)
-RoseBy-fewer m n a b (inr last) le = inr last
 
 -- causes over several calls
 pub ruleset causes = (Rose-before, Rose-after, HasCause-before, HasCause-after)

@@ -1,7 +1,7 @@
 -- What reads of an object in order come to.
 use Rattle.std.proofs.Common.{◌≡◌, refl, ℕ, zero, suc, ◌+◌, ◌≤◌, List, [], ◌∷◌, ◌++◌, arith, length, take, drop, sym, ◌∙◌, ap, subst, Option, None, Some, IfSome, take-append-drop, inl, inr}
 use Rattle.std.proofs.Math.Seq.{drop-append_seam}
-use Rattle.std.proofs.lemmas.List.{drop-drop, take_all}
+use Rattle.std.proofs.lemmas.List.{drop-drop}
 use Rattle.std.specs.Io.KnownBytes.{Consumes}
 use Rattle.std.specs.FinMap as map
 use Rattle.outside.specs.Shelf.{Objects, bytes_of, part_of, left_of, CreateLeaves, AppendLeaves}
@@ -22,10 +22,6 @@ part_of-end bytes at max some none = no_front (drop at bytes) max some none
     no_front [] n some none = refl
     no_front (x ∷ left) zero some none = absurd (omega arith)
     no_front (x ∷ left) (suc n) some none = (cc)
-
--- an object that a part is long enough for is read whole
-pub part_of-whole : (bytes : List ℕ) (max : ℕ) → length bytes ≤ max → part_of bytes 0 max ≡ bytes
-part_of-whole bytes max fits = take_all max bytes fits
 
 -- a read of an object takes the bytes that it gave from what is left of it
 pub left_of-read : (held new : Option Objects) (name part : List ℕ) (at max next : ℕ) → new ≡ held → next ≡ at + length part

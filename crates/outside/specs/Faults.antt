@@ -1,15 +1,11 @@
 -- How an object of the outside counts its faults (this project's own).
-use Rattle.std.specs.Prelude.{◌≡◌, ℕ, ◌+◌, ◌-◌, ◌^◌, ◌<◌, ◌≤◌, ◌⊎◌, IsErrOf, Result, Ok, Err}
+use Rattle.std.specs.Prelude.{◌≡◌, ℕ, ◌-◌, ◌^◌, ◌<◌, ◌≤◌, ◌⊎◌, IsErrOf, Result, Ok, Err}
 use Rattle.outside.specs.declared.trouble.Trouble.{Trouble}
 use Rattle.outside.specs.declared.trouble.Trouble.TheVariants.{Fault, Memory}
 
 -- the count is higher than it was; one that stands at its last value, 2^64 - 1, counts as risen
 abbrev pub Rose : ℕ → ℕ → Type 0
 Rose before after = (before < after) ⊎ (2 ^ 64 - 1 ≤ after)
-
--- the same for n times
-abbrev pub RoseBy : ℕ → ℕ → ℕ → Type 0
-RoseBy n before after = (before + n ≤ after) ⊎ (2 ^ 64 - 1 ≤ after)
 
 -- where the call answered no `Fault`, P holds
 abbrev pub UnlessFault : {T : Type 0} → Result T Trouble → Type 0 → Type 0

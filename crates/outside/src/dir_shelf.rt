@@ -17,9 +17,9 @@ use std::rt::Files;
 /// A shelf over the files of one folder. An object is the file of its name. A call that the system interrupted is
 /// made again; each other `Err` of std's is a fault. It tells no bytes and keeps no record, only its counts.
 ///
-/// No name leads out of the folder. Names of the depot's objects are made of letters, digits and `-`. A file
-/// name is what the user wrote, of the bytes from `!` to `~`: it stands behind the folder and a `/`, so a leading
-/// `/` means the folder, and one that has `..` among its parts is a fault before any file is touched.
+/// A name leads out of the folder only by a link in it. Names of the depot's objects are made of letters, digits and
+/// `-`. A file name is what the user wrote, of the bytes from `!` to `~`: it stands behind the folder and a `/`, so a
+/// leading `/` means the folder, and one that has `..` among its parts is a fault before any file is touched.
 ///
 /// Files in use stay open, at most eight to be read and eight to be added to; one is closed where this handle creates
 /// or erases its name, and after an `Err` on it. Another handle's erase is not noticed: this one may go on with the

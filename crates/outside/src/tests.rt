@@ -232,7 +232,7 @@ fn a_folder_is_a_shelf(rt: HostRuntime) -> Result<(), Fail> {
     fs::create_dir(&rt, "outside_a_folder_is_a_shelf/sub")?;
     let mut shelf = DirShelf::new(&rt, String::from_str(alloc, folder)?);
     uses_all_calls(&rt, alloc, &mut shelf)?;
-    // Nothing is in a file. A folder is there and can't be read, and no name leads out.
+    // Nothing is in a file. A folder is there and can't be read, and a name with `..` is a fault.
     assert_eq!(rt; shelf.has("new/x"), Ok(false));
     reads(&rt, alloc, &mut shelf, ("new/x", 0, 9), b"")?;
     assert_eq!(rt; shelf.erase("new/x"), Ok(()));
