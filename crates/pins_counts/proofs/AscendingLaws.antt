@@ -1,5 +1,5 @@
 -- Ascending sessions.
-use Rattle.std.proofs.Common.{◌≡◌, refl, sym, ◌∙◌, ap, ℕ, zero, suc, ◌+◌, ◌<◌, ◌≤◌, List, [], ◌∷◌, ◌++◌, take, drop, length, get_or, slice_get, Bool, true, false, ◌||◌, eqb, eqb-true, Some, inl, inr, Result, Ok, Err, OnOk, OnErr, arith}
+use Rattle.std.proofs.Common.{◌≡◌, refl, sym, ◌∙◌, ap, ℕ, zero, suc, ◌+◌, ◌<◌, ◌≤◌, List, [], ◌∷◌, ◌++◌, take, drop, length, get_or, Bool, true, false, ◌||◌, eqb, eqb-true, inl, inr, Result, Ok, Err, OnOk, OnErr, arith}
 use Rattle.std.proofs.lemmas.Bool.{cases_lt}
 use Rattle.std.proofs.lemmas.Bool.Decides.{nat_tests}
 use Rattle.std.proofs.lemmas.List.{take-append-drop}
@@ -113,10 +113,6 @@ awaits_between from below xs at number q s is before there least less = awaits_n
 -- none is from a number on that is greater than all
 pub awaits_past : (xs : List ℕ) (at number q : ℕ) → ((k d : ℕ) → k < at → get_or xs k d < number) → length xs ≤ at → number ≤ q → awaits xs q ≡ false
 awaits_past xs at number q before whole least = awaits_none xs q (λ k within. less_apart _ _ (let b = before k 0 (omega (arith, whole, within)) in omega (arith, b, least)))
-
-pub awaits_first : (xs : List ℕ) (s q : ℕ) → slice_get xs 0 ≡ Some s → eqb q s ≡ false → awaits (drop 1 xs) q ≡ false → awaits xs q ≡ false
-awaits_first [] s q is apart none = refl
-awaits_first (x ∷ xs) s q is apart none = let e : x ≡ s = cc in ap (λ y. eqb q y || awaits xs q) e ∙ ap (λ b. b || awaits xs q) apart ∙ none
 
 -- the session that isn't at its place is less than those from there on
 pub ascending_apart : (from below : ℕ) (xs : List ℕ) (at s k : ℕ) → IsAscending from below xs → ((k d : ℕ) → at ≤ k → k < length xs → s ≤ get_or xs k d)

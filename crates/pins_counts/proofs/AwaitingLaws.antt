@@ -1,19 +1,14 @@
 -- What is awaited as the numbers change, and why a walk may pass the other sessions.
-use Rattle.std.proofs.Common.{◌≡◌, refl, sym, ◌∙◌, ap, subst, ℕ, zero, suc, ◌+◌, ◌-◌, ◌<◌, ◌≤◌, List, [], ◌∷◌, ◌++◌, take, drop, filter, length, slice_get, slice_set, Bool, true, false, not, ◌&&◌, eqb, eqb-true, Option, Some, None, inl, inr, MatchOption, arith, length-append, length-set}
-use Rattle.std.proofs.lemmas.Bool.{cases_Bool, false≢true}
+use Rattle.std.proofs.Common.{◌≡◌, refl, sym, ◌∙◌, ap, ℕ, zero, suc, ◌+◌, ◌-◌, ◌<◌, ◌≤◌, List, [], ◌∷◌, ◌++◌, take, drop, filter, length, slice_get, slice_set, Bool, true, false, not, ◌&&◌, eqb, Option, Some, None, MatchOption, arith}
+use Rattle.std.proofs.lemmas.Bool.{false≢true}
 use Rattle.std.proofs.lemmas.Bool.Decides.{nat_tests}
-use Rattle.std.proofs.lemmas.List.{drop_all, take_all, append-nil, length-take, take-append-le}
+use Rattle.std.proofs.lemmas.List.{drop_all, take_all, append-nil, length-take}
 use Rattle.std.proofs.lemmas.List.Elements.{filter-append}
 use Rattle.ss_base.specs.declared.ended.Ended.{Ended}
 use Rattle.ss_base.specs.declared.object.Object.{Object}
-use Rattle.ss_base.specs.declared.object.Object.TheVariants.{Container}
-use Rattle.ss_base.specs.declared.ids.ContainerId.{ContainerId}
-use Rattle.ss_base.specs.declared.ids.ManifestId.{ManifestId}
-use Rattle.ss_base.specs.Ids.{same_object}
 use Rattle.ss_base.specs.KnownObjects.{numbered, objects_of}
 use Rattle.pins_counts.specs.declared.kind.Kind.{Kind}
-use Rattle.pins_counts.specs.declared.kind.Kind.TheVariants.{Manifests}
-use Rattle.pins_counts.specs.Counts.{Counted, number, is_gone, one_if, object_of, count_of, is_idle}
+use Rattle.pins_counts.specs.Counts.{Counted, number, is_gone, object_of, count_of, is_idle}
 use Rattle.pins_counts.specs.Waiting.{Awaited, awaits, closed, ended_at, objects_had, objects_at, IsQuiet, IsAwaited}
 use Rattle.pins_counts.proofs.WalkLaws.{Finds, passed_to}
 
@@ -78,10 +73,6 @@ append_right : (xs ys zs : List Object) → (xs ++ ys) ++ zs ≡ xs ++ (ys ++ zs
 append_right [] ys zs = refl
 append_right (x ∷ xs) ys zs = ap (λ l. x ∷ l) (append_right xs ys zs)
 
--- as many as may be are found
-pub finds_full : (limit : ℕ) (found left goal : List Object) → limit ≤ length found → Finds limit found left goal → found ≡ goal
-finds_full limit found left goal full so = sym (take_all limit found so.small) ∙ sym (take-append-le limit found left full) ∙ so.same
-
 module _ (kind : Kind) (counted : Counted) (limit : ℕ) (found goal : List Object) (n : ℕ) (so : Finds limit found (dead_from kind counted n) goal) where
   -- no session is left
   pub finds_end : ((k : ℕ) → n ≤ k → IsQuiet kind counted k) → found ≡ goal
@@ -111,33 +102,6 @@ not_idle false false m n grows le was = grind (arith, nat_tests, was, le)
 pub calm : (old new : Counted) (q : Object) → (is_gone old q ≡ true → is_gone new q ≡ true) → number old q ≤ number new q → is_idle old q ≡ false → is_idle new q ≡ false
 calm old new q = not_idle (is_gone old q) (is_gone new q) (number old q) (number new q)
 
--- where no object becomes dead, the same sessions are awaited
-pub awaited_kept : (kind : Kind) (old new : Counted) (a : Awaited) → new.sessions ≡ old.sessions → new.room ≡ old.room → ((q : Object) → is_idle old q ≡ false → is_idle new q ≡ false) → IsAwaited kind old a → IsAwaited kind new a
-awaited_kept kind old new a sessions room calmer so = record {
-  covers = λ s apart e n is below. calmer _ (so.covers s apart e n (ap (λ l. closed (slice_get l s)) (sym sessions) ∙ is) below);
-  room = (let same = ap length sessions in let fits = so.room in omega (arith, same, room, fits));
-}
-
--- one object's number falls
-pub awaited_taken : (kind : Kind) (old new : Counted) (a b : Awaited) (k : Object) → ((q : Object) → number old q ≡ number new q + one_if (same_object q k)) → new ≡ record old { numbers = new.numbers }
-    → ((s : ℕ) → awaits b.sessions s ≡ false → awaits a.sessions s ≡ false) → b.below ≡ a.below
-    → ((s n : ℕ) (e : Ended) → same_object (object_of kind s n) k ≡ true → awaits b.sessions s ≡ false → ended_at new s ≡ Some e → is_idle new (object_of kind s n) ≡ false)
-    → IsAwaited kind old a → IsAwaited kind new b
-awaited_taken kind old new a b k numbers rest kept below here so = record {
-  covers = λ s apart e n is within. elim (cases_Bool (same_object (object_of kind s n) k)) [
-    | inl same ↦ here s n e same apart is
-    | inr other ↦
-        let q = object_of kind s n in
-        let as_old = numbers q ∙ ap (λ t. number new q + one_if t) other in
-        calm old new q (λ gone. ap (λ v. is_gone v q) rest ∙ gone) (omega (arith, as_old)) (so.covers s (kept s apart) e n (ap (λ v. ended_at v s) (sym rest) ∙ is) within)
-  ];
-  room = (let length_same = ap (λ v. length v.sessions) rest in let room_same = ap (λ v. v.room) rest in let fits = so.room in omega (arith, length_same, room_same, fits, below));
-}
-
--- of the other kind no object's number falls
-pub other_kind : (c : ContainerId) (m : ManifestId) (s n : ℕ) → same_object (object_of Manifests s n) (Container c) ≡ false
-other_kind c m s n = refl
-
 get_set : (l : List (Option Ended)) (k s : ℕ) (v : Option Ended) → eqb s k ≡ false → slice_get (slice_set l k v) s ≡ slice_get l s
 get_set [] k s v apart = refl
 get_set (x ∷ l) zero zero v apart = absurd (false≢true (sym apart))
@@ -145,46 +109,11 @@ get_set (x ∷ l) zero (suc s) v apart = refl
 get_set (x ∷ l) (suc k) zero v apart = refl
 get_set (x ∷ l) (suc k) (suc s) v apart = get_set l k s v (grind (arith, nat_tests, apart))
 
--- a session is closed
-pub awaited_closed : (kind : Kind) (old new : Counted) (a b : Awaited) (k : ℕ) (v : Option Ended) → new ≡ record old { sessions = slice_set old.sessions k v }
-    → ((s : ℕ) → awaits b.sessions s ≡ false → awaits a.sessions s ≡ false) → b.below ≡ a.below → (awaits b.sessions k ≡ false → IsQuiet kind new k) → IsAwaited kind old a → IsAwaited kind new b
-awaited_closed kind old new a b k v is kept below here so = record {
-  covers = λ s apart. elim (cases_Bool (eqb s k)) [
-    | inl same ↦
-        let e = eqb-true s k same in
-        subst (IsQuiet kind new) (sym e) (here (ap (awaits b.sessions) (sym e) ∙ apart))
-    | inr other ↦ λ e n had within.
-        let was : ended_at old s ≡ Some e = ap closed (sym (get_set old.sessions k s v other)) ∙ ap (λ w. ended_at w s) (sym is) ∙ had in
-        let q = object_of kind s n in
-        ap (λ w. is_idle w q) is ∙ so.covers s (kept s apart) e n was within
-  ];
-  room = (let length_same = ap (λ w. length w.sessions) is ∙ length-set old.sessions k v in let room_same = ap (λ w. w.room) is in let fits = so.room in omega (arith, length_same, room_same, fits, below));
-}
-
 get_opened : (l : List (Option Ended)) (s : ℕ) → closed (slice_get (l ++ None ∷ []) s) ≡ closed (slice_get l s)
 get_opened [] zero = refl
 get_opened [] (suc s) = refl
 get_opened (x ∷ l) zero = refl
 get_opened (x ∷ l) (suc s) = get_opened l s
-
--- a session is added
-pub awaited_opened : (kind : Kind) (old new : Counted) (a : Awaited) → 0 < old.room → new ≡ record old { sessions = old.sessions ++ None ∷ []; room = old.room - 1 } → IsAwaited kind old a → IsAwaited kind new a
-awaited_opened kind old new a some is so = record {
-  covers = λ s apart e n had within.
-      let was : ended_at old s ≡ Some e = sym (get_opened old.sessions s) ∙ ap (λ w. ended_at w s) (sym is) ∙ had in
-      let q = object_of kind s n in
-      ap (λ w. is_idle w q) is ∙ so.covers s apart e n was within;
-  room = (let length_same = ap (λ w. length w.sessions) is ∙ length-append old.sessions (None ∷ []) in let room_same = ap (λ w. w.room) is in let fits = so.room in omega (arith, length_same, room_same, fits, some));
-}
-
--- there is more room
-pub awaited_room : (kind : Kind) (old new : Counted) (a b : Awaited) → new ≡ record old { room = new.room } → b.sessions ≡ a.sessions → length old.sessions + new.room ≤ b.below → IsAwaited kind old a → IsAwaited kind new b
-awaited_room kind old new a b is sessions fits so = record {
-  covers = λ s apart e n had within.
-      let q = object_of kind s n in
-      ap (λ w. is_idle w q) is ∙ so.covers s (ap (λ l. awaits l s) (sym sessions) ∙ apart) e n (ap (λ w. ended_at w s) (sym is) ∙ had) within;
-  room = (let length_same = ap (λ w. length w.sessions) is in omega (arith, length_same, fits));
-}
 
 -- the sessions before the next awaited one are quiet, or all from there on
 abbrev pub NextIs : Kind → Counted → ℕ → Option ℕ → Type 0

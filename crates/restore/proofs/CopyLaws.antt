@@ -44,9 +44,6 @@ count_then a b count count' was now = omega (arith, was, now)
 
 -- ---- chunks
 
-pub no_chunks : (output : List ℕ) (before : Shelves) (start : ℕ) → start ≤ bound → AreChunksCopied output before before [] start start
-no_chunks output before start small = record { chunks = []; listed = refl; read = tt; depot = refl; files = refl; count_is = count_none start small }
-
 pub one_more_chunk : (output : List ℕ) (before now after : Shelves) (all : List Listed) (i : ℕ) (listed : Listed) (start count len count' : ℕ)
     → i < length all → listed ≡ get_or all i listed → count' ≡ min (count + len) bound
     → AreChunksCopied output before now (take i all) start count → IsChunkCopied output now after listed len
@@ -116,9 +113,6 @@ stopped_in_manifest output before after loaded kept manifest fault load stop =
     (subst (λ (s : ShelfView). StopsInChunks output (record before { depot = s }) after (listed_by manifest) fault) is stop)
 
 -- ---- manifests
-
-pub no_manifests : (output : List ℕ) (before : Shelves) → AreManifestsCopied output before before [] 0
-no_manifests output before = record { manifests = []; kepts_are = refl; read = tt; depot = refl; files = refl; count_is = count_none 0 (omega arith) }
 
 pub one_more_manifest : (output : List ℕ) (before now after : Shelves) (kepts : List KeptView) (i : ℕ) (kept : KeptView) (count count' : ℕ)
     → i < length kepts → kept ≡ get_or kepts i kept

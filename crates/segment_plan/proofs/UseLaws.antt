@@ -43,9 +43,6 @@ laid-own end room (c ∷ cs) l (inr later) =
     let rest = laid-own (after end room c.piece) room cs l later in
     (rest.0 ∙ after_session end room c.piece, rest.1)
 
-abbrev container_of : Place → ContainerId
-container_of p = p.container
-
 -- the containers of places at which pieces lie
 pub may-use : (ms : List Located) (end : ContainerEnd) (room : ℕ) (cs : List Chunk) (ps : List Piece) (qs : List Place) → length qs ≡ length ps →
     AllLie (laid end room cs) ms ps qs → (id : ContainerId) → Contains (map (λ (p : Place). p.container) qs) id → MayUse ms (end_after end room cs) id

@@ -89,22 +89,6 @@ IsPending-none n q sound same is =
     let equal : now ≡ q = λ i. record { numbers = sym same i; chunks = sym is i } in
     subst IsPending equal kept
 
--- a stream of which no chunk pends
-pub in_step-none : (g : Grouping) → g.segmenter.numbers ≡ numbers_in g → g.segmenter.chunks ≡ [] → IsInStep g
-in_step-none g same is = record {
-  numbers = same;
-  pending = IsPending-none (numbers_in g) g.segmenter (AreSound-numbers_of g.chunker.profile) same is;
-  chunks = subst (λ (l : List (List ℕ)). IsCutSoFar (numbers_in g) l g.chunker.bytes) (sym is) (IsCutSoFar-start (numbers_in g) g.chunker.bytes);
-}
-
--- more bytes came
-pub in_step-push : (g h : Grouping) (piece : List ℕ) → IsInStep g → h.segmenter ≡ g.segmenter → h.chunker.profile ≡ g.chunker.profile → h.chunker.bytes ≡ g.chunker.bytes ++ piece → IsInStep h
-in_step-push g h piece step same profile is =
-    let now : Grouping = record { chunker = record { profile = g.chunker.profile; bytes = g.chunker.bytes ++ piece }; segmenter = g.segmenter } in
-    let kept : IsInStep now = record { numbers = step.numbers; pending = step.pending; chunks = IsCutSoFar-push (numbers_in g) g.segmenter.chunks g.chunker.bytes piece step.chunks } in
-    let equal : now ≡ h = λ i. record { chunker = record { profile = sym profile i; bytes = sym is i }; segmenter = sym same i } in
-    subst IsInStep equal kept
-
 -- one more chunk pends, behind which no segment ends
 pub in_step-more : (g h : Grouping) (chunk : List ℕ) → IsInStep g → TakesChunk (numbers_in g) g.chunker.bytes h.chunker.bytes chunk → h.chunker.profile ≡ g.chunker.profile
     → h.segmenter.numbers ≡ g.segmenter.numbers → h.segmenter.chunks ≡ g.segmenter.chunks ++ chunk ∷ [] → (ends_behind g.segmenter.numbers (length g.segmenter.chunks + 1) (name_of_bytes chunk) ≡ true → ⊥) → IsInStep h

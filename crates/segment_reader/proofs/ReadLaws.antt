@@ -25,14 +25,6 @@ pub record IsReadSoFar (n : Numbers) (before now : List ℕ) (source source' : S
   pub bytes : now ≡ before ++ got
   pub number : count ≡ length got
 
-pub so_far-start : (n : Numbers) (before : List ℕ) (source : SourceView) → IsReadSoFar n before before source source 0
-so_far-start n before source = record {
-  got = [];
-  reads = record { gives = Consumes-nil source.left; late = unread refl refl };
-  bytes = sym (append-nil before);
-  number = refl;
-}
-
 module _ (n : Numbers) (before now : List ℕ) (source source' source'' : SourceView) (count : ℕ) (so : IsReadSoFar n before now source source' count) (none : has_segment n now ≡ false) where
   none_before : has_segment n (before ++ so.got) ≡ false
   none_before = subst (λ (l : List ℕ). has_segment n l ≡ false) so.bytes none

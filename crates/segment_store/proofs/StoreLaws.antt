@@ -51,31 +51,6 @@ plan_shelf id chunks manifests end room plan shelf is =
     ap (λ (ps : List PutBytes). after_create (after_puts shelf ps) name plan.text.items) is.puts
     ∙ ap (λ (text : List ℕ). after_create (after_puts shelf (puts_against chunks manifests end room)) name text) is.text
 
--- a plan that was stored
-pub plan_done : (id : ManifestId) (chunks : List (List ℕ)) (manifests : List Located) (end : ContainerEnd) (room : ℕ) (plan : SegmentPlan) (shelf shelf' : ShelfView) (texts texts' : ℕ)
-    → IsPlanOf chunks manifests end room plan → CanBeStored manifests end plan → shelf' ≡ plan_stored shelf id plan → texts' ≡ texts + 1
-    → IsStored id chunks manifests room (record { shelf = shelf; end = end; texts = texts }) (record { shelf = shelf'; end = plan.end; texts = texts' }) (stored_by plan) (written_by id plan)
-plan_done id chunks manifests end room plan shelf shelf' texts texts' is can after more = record {
-  shelf = after ∙ plan_shelf id chunks manifests end room plan shelf is;
-  end = is.end;
-  texts = more;
-  stored_is = record {
-    content = is.content;
-    text = ap name_of_bytes is.text;
-    chunk_count = is.chunk_count;
-    byte_count = is.byte_count;
-    fresh_count = is.fresh_count;
-    fresh_len = is.fresh_len;
-    uses = is.uses;
-  };
-  written_is = record {
-    id_is = refl;
-    text_is = refl;
-    sum_is = puts-written plan.puts.items ∙ ap bytes_put is.puts;
-    least = can.puts.least;
-  };
-}
-
 -- containers go on by at most one for each piece
 pub plan_goes_on : (segment : Segment) (manifests : List Located) (end : ContainerEnd) (room : ℕ) (plan : SegmentPlan)
     → IsPlanOf (segment_chunks segment) manifests end room plan → CanBeStored manifests end plan → GoesOn end plan.end (vec_len segment.pieces)

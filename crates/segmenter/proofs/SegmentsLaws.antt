@@ -1,5 +1,5 @@
 -- Laws of segments.
-use Rattle.std.proofs.Common.{◌≡◌, ℕ, ◌+◌, ◌-◌, ◌<◌, ◌≤◌, Bool, true, false, List, [], ◌∷◌, ◌++◌, length, take, drop, Option, Some, None, MatchOption, refl, sym, ap, ◌∙◌, arith, unwrap_or, length-append}
+use Rattle.std.proofs.Common.{◌≡◌, ℕ, ◌+◌, ◌-◌, ◌<◌, ◌≤◌, Bool, true, false, List, [], ◌∷◌, ◌++◌, length, take, drop, Option, Some, None, MatchOption, sym, ap, ◌∙◌, arith, unwrap_or, length-append}
 use mathlib.Core.Logic.{⊎_elim}
 use Rattle.std.specs.List.{slice_index_or}
 use Rattle.std.proofs.lemmas.Bool.{cases_eq}
@@ -110,9 +110,6 @@ segments-last n chunks none some =
 -- comes, are the stream's.
 pub record AreGiven (n : Numbers) (added : List (List ℕ)) (given : List (List (List ℕ))) (pending : List (List ℕ)) : Type 0 where
   pub whole : (later : List (List ℕ)) → segments n (added ++ later) ≡ given ++ segments n (pending ++ later)
-
-pub AreGiven-start : (n : Numbers) → AreGiven n [] [] []
-AreGiven-start n = record { whole = λ later. refl }
 
 -- a chunk behind which no segment ends
 pub AreGiven-pends : (n : Numbers) (added : List (List ℕ)) (given : List (List (List ℕ))) (pending : List (List ℕ)) (chunk : List ℕ) → AreGiven n added given pending → AreGiven n (added ++ chunk ∷ []) given (pending ++ chunk ∷ [])

@@ -10,7 +10,7 @@ use Rattle.turn_lock.specs.declared.view.Known.{Known}
 use Rattle.turn_lock.specs.Seen.{IsTurnOf, IsLater}
 use Rattle.turn_lock.specs.Found.{IsFound}
 use Rattle.turn_lock.specs.Passes.{PassView, pass_of, view_of, known_of, first_view, HasEach, nobody}
-use Rattle.turn_lock.specs.Entered.{waiting, within, ticket_of}
+use Rattle.turn_lock.specs.Entered.{waiting, within}
 use Rattle.turn_lock.specs.Rule.{Kept}
 use Rattle.turn_lock.specs.Steps.{Draws, Looks, Enters, Adds, Serves, Tells, list_in, seeing, gave, given, copy, both}
 use Rattle.turn_lock.proofs.Lists.{has_head}
@@ -28,9 +28,6 @@ rests {T} id m p cs e = e ∙ sym (ap (λ (n : Me (Option T) View). let r : Me (
 
 pub waits : {T : Type 0} (id : TableId) (m : Me (Option T) View) (t : ℕ) (p : PassView) → m ≡ (waiting t p, []) → m ≡ (waiting t (pass_of id m.0), [])
 waits {T} id m t p e = e ∙ sym (ap (λ (n : Me (Option T) View). let r : Me (Option T) View = (waiting t (pass_of id n.0), []) in r) e)
-
-pub enters : {T : Type 0} (id : TableId) (m : Me (Option T) View) (t : ℕ) (p : PassView) → m ≡ (within t p, (0, None) ∷ []) → m ≡ (within (ticket_of m.0.ticket) (pass_of id m.0), (0, None) ∷ [])
-enters {T} id m t p e = e ∙ sym (ap (λ (n : Me (Option T) View). let r : Me (Option T) View = (within (ticket_of n.0.ticket) (pass_of id n.0), (0, None) ∷ []) in r) e)
 
 -- the state is in hand again
 pub held : {T : Type 0} (m m' : Me (Option T) View) (t : ℕ) (p : PassView) (x : T) → m ≡ (within t p, (0, None) ∷ []) → m' ≡ (m.0, (0, Some x) ∷ rest m.1) → m' ≡ (within t p, (0, Some x) ∷ [])
