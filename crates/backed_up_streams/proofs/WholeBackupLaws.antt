@@ -1,12 +1,10 @@
 -- A backup leaves a whole depot whole.
-use Rattle.std.proofs.Common.{◌≡◌, ◌≢◌, ℕ, ◌<◌, ◌≤◌, ◌^◌, true, false, List, [], ◌∷◌, ◌++◌, Option, Some, Result, Ok, Err, refl, sym, ap, ◌∙◌, subst, inl, inr, arith, append-nil}
+use Rattle.std.proofs.Common.{◌≡◌, ◌≢◌, ℕ, ◌<◌, ◌≤◌, ◌^◌, true, false, List, [], ◌∷◌, ◌++◌, Option, None, Some, Result, Ok, Err, refl, sym, ap, ◌∙◌, subst, inl, inr, arith, append-nil}
 use Rattle.std.specs.FinMap as map_of
-use Rattle.std.specs.Option.{option_map, unwrap_or}
 use Rattle.std.specs.List.{All}
 use Rattle.std.proofs.lemmas.Bool.{false≢true}
 use Rattle.std.proofs.lemmas.Bool.Decides.{eqb_tells}
 use Rattle.std.proofs.lemmas.List.Elements.{All-nil, All-cons, All-head}
-use Rattle.ss_base.specs.declared.ids.ContainerId.{ContainerId}
 use Rattle.ss_base.specs.declared.ids.ManifestId.{ManifestId}
 use Rattle.ss_base.specs.declared.object.Object.{Object}
 use Rattle.ss_base.specs.declared.object.Object.TheVariants.{Container, Manifest as ManifestObject}
@@ -26,11 +24,10 @@ use Rattle.journal_entry.specs.declared.entry.Point.TheVariants.{Abort, Commit}
 use Rattle.journal_entry.specs.Bounds.{IsEntry, PointFits}
 use Rattle.history.specs.declared.rules.Rules.{Rules}
 use Rattle.history.specs.Legal.{is_legal}
-use Rattle.history.specs.Need.{commits_manifest, is_live, is_needed}
+use Rattle.history.specs.Need.{commits_manifest, is_live}
 use Rattle.history.specs.Sessions.{has, commits_of}
 use Rattle.history_laws.proofs.SessionLaws.{committed_below}
 use Rattle.store_core.specs.View.{made}
-use Rattle.depot.specs.Calls.{after_create}
 use Rattle.depot.specs.Storing.{after_puts}
 use Rattle.segment_store.specs.Stored.{text_against}
 use Rattle.stored_streams.specs.Streams.{Streams}
@@ -40,15 +37,39 @@ use Rattle.stored_streams.specs.Loads.{StoresLoaded}
 use Rattle.stored_streams.specs.Whole.{IsWhole}
 use Rattle.stored_streams.proofs.LoadLaws.{stores_planned}
 use Rattle.stored_streams.proofs.NameLaws.{same_small, small}
-use Rattle.whole_objects.specs.Keeps.{GoesOn, KeepsWanted, CommitsNothing}
+use Rattle.whole_objects.specs.Keeps.{KeepsWanted, CommitsNothing}
 use Rattle.whole_objects.proofs.FitLaws.{committed_fits, needed_low, commits_few}
-use Rattle.whole_objects.proofs.PutLaws.{container_name, manifest_apart, Grow, HasGrown, grow-then}
+use Rattle.whole_objects.proofs.PutLaws.{container_name, manifest_apart, Grow}
 use Rattle.whole_objects.proofs.RecordLaws.{put-laid, put-stopped}
 use Rattle.backed_up_streams.proofs.LeftLaws.{HasPutSome, IsLeft}
 use Rattle.backed_up_streams.proofs.LeftLaws.HasPutSome.{stopped, unwritten, all_done}
 use Rattle.backed_up_streams.proofs.LeftLaws.IsLeft.{untouched, put_some}
 use Rattle.backed_up_streams.proofs.LoadLaws.{live_committed, IsTelling, HasEnded}
 use Rattle.backed_up_streams.proofs.WholeLaws.{IsAllowed, allowed_before, Facts, WholeSo}
+use Rattle.ss_base.specs.Profile.{numbers_of}
+use Rattle.ss_base.proofs.SoundLaws.{AreSound-numbers_of}
+use Rattle.journal_entry.specs.declared.entry.Point.TheVariants.{Begin}
+use Rattle.history.specs.Sessions.{commits}
+use Rattle.store_core.specs.View.{past_of}
+use Rattle.depot.specs.declared.fault.BackupFault.{BackupFault}
+use Rattle.history_calls.specs.Tokens.{IdleView}
+use Rattle.history_calls.proofs.TurnLaws.{begun_open}
+use Rattle.session.specs.Backup.{HasStarted, BackupAnswer}
+use Rattle.session.specs.Backup.HasNotBackedUp.{not_started, given_up}
+use Rattle.stored_streams.specs.OfStreams.{StoresNothing}
+use Rattle.stored_streams.specs.Plans.{plans_after}
+use Rattle.stored_streams.proofs.StayLaws.{of_streams_stays}
+use Rattle.whole_objects.proofs.EntryLaws.{whole_behind}
+use Rattle.whole_objects.proofs.KeepLaws.{whole_kept}
+use Rattle.whole_objects.proofs.CommitLaws.{whole_committed}
+use Rattle.backed_up_streams.specs.WholeThen.{IsWholeThen}
+use Rattle.backed_up_streams.specs.OfInput.{IsOfInput}
+use Rattle.backed_up_streams.proofs.AloneLaws.{alone}
+use Rattle.backed_up_streams.proofs.BackupLaws.{begin_steps, backup-has, finished-of_input, failed-of_input}
+use Rattle.backed_up_streams.proofs.KeptLaws.{end_at_first}
+use Rattle.backed_up_streams.proofs.RunLaws.{finished-run, failed-run}
+use Rattle.backed_up_streams.proofs.UnstartedLaws.{AddsNoSession, unstarted-adds}
+use Rattle.backed_up_streams.proofs.WholeLaws.{is_whole_telling}
 
 abbrev manifest_name : ManifestId → List ℕ
 manifest_name id = object_text (ManifestObject id)
@@ -62,12 +83,6 @@ nothing_committed : (point : Point) → ((id : ManifestId) → commits_manifest 
 unfolding commits_manifest
 nothing_committed (Commit id content text chunks bytes fresh fresh_bytes uses) none = absurd (false≢true (sym (none id) ∙ same_manifest-self id))
 nothing_committed _ none = tt
-
-pub record IsWholeThen (n : Numbers) (streams : Streams) (past : List Entry) (depot : ShelfView) : Type 0 where
-  pub now : Objects
-  pub held_is : depot.held ≡ Some now
-  pub of_streams : IsOfStreams n streams past
-  pub whole : IsWhole n streams past now
 
 module _ (n : Numbers) (sound : AreSound n) (rules : Rules) (streams : Streams) (older : List Entry) (author session : ℕ)
     (keeps : (past : List Entry) (objects now : Objects) → is_legal rules past ≡ true → All IsEntry past → IsOfStreams n streams past → IsWhole n streams past objects → KeepsWanted n streams past objects now → IsWhole n streams past now)
@@ -236,7 +251,7 @@ module _ (standings champions : ℕ) (files : ShelfView) (input name : List ℕ)
   the_past = past_of before.seen
 
   keep : (past : List Entry) (held now : Objects) → is_legal rules past ≡ true → All IsEntry past → IsOfStreams numbers streams past → IsWhole numbers streams past held → KeepsWanted numbers streams past held now → IsWhole numbers streams past now
-  keep past held now legal entries of_streams whole wanted = kept_whole numbers streams rules past held now sound_numbers legal entries of_streams whole wanted
+  keep past held now legal entries of_streams whole wanted = whole_kept numbers streams rules past held now sound_numbers legal entries of_streams whole wanted
 
   no_commits : (newer past : List Entry) (held : Objects) → is_legal rules (newer ++ past) ≡ true → All (λ (entry : Entry). CommitsNothing entry.point) newer → IsWhole numbers streams past held → IsWhole numbers streams (newer ++ past) held
   no_commits newer past held legal nothing whole = whole_behind numbers streams rules newer past held legal nothing whole
@@ -270,13 +285,14 @@ module _ (standings champions : ℕ) (files : ShelfView) (input name : List ℕ)
     AllowedIs = IsAllowed numbers sound_numbers rules streams the_past before.author the_session
 
     abbrev tells : IsTelling numbers streams the_past before.author the_session ToldIs AllowedIs
-    tells = is_whole_telling numbers sound_numbers rules streams the_past before.author the_session no_commits keep
-    (λ id content text chunks bytes fresh fresh_bytes uses past held legal entries of_streams whole text_there records. committed_whole numbers streams rules before.author id content text chunks bytes fresh fresh_bytes uses past held sound_numbers legal entries of_streams whole text_there records)
+    tells =
+        is_whole_telling numbers sound_numbers rules streams the_past before.author the_session no_commits keep
+        (λ id content text chunks bytes fresh fresh_bytes uses past held legal entries of_streams whole text_there records. whole_committed numbers streams rules before.author id content text chunks bytes fresh fresh_bytes uses past held sound_numbers legal entries of_streams whole text_there records)
 
     none_yet : commits_of the_session the_past ≡ 0
     unfolding commits_of commits
     none_yet =
-        ap (commits_of the_session) (sym (begins_with standings champions files input name before streams objects told started))
+        ap (commits_of the_session) (sym (begin_steps standings champions files input name before streams objects told started).past)
         ∙ (begun_open alone standings champions before.author the_session name before.seen started.caller.seen started.begun.at_turn).commit_count
 
     first_facts : AllowedIs (begin_it ∷ the_past) → Facts numbers sound_numbers rules streams the_past before.author the_session (begin_it ∷ the_past) (plans_of numbers streams the_past) stored
@@ -312,3 +328,12 @@ module _ (standings champions : ℕ) (files : ShelfView) (input name : List ℕ)
       run-whole started after depot'
       (failed-run standings champions files input name before streams objects told started (ToldIs started) (AllowedIs started) (tells started) depot (at_first started) stream_is streamed.last after depot' fault streamed.failed)
       (record { legal = legal; entries = entries; contents = contents })
+
+pub whole-backup : (standings champions : ℕ) (files : ShelfView) (input name : List ℕ) (before : IdleView) (streams : Streams) (objects : Objects) → files.held ≡ Some objects → (depot : ShelfView) (stored : Objects) → depot.held ≡ Some stored → (rules : Rules) (after : IdleView) (depot' : ShelfView) (result : Result ℕ BackupFault)
+    → BackupAnswer alone standings champions files input name before depot after depot' result
+    → IsOfInput streams (past_of before.seen) (past_of after.seen) (bytes_of objects input) → is_legal rules (past_of after.seen) ≡ true → All IsEntry (past_of after.seen)
+    → IsOfStreams (numbers_of before.seen.profile) streams (past_of before.seen) → IsWhole (numbers_of before.seen.profile) streams (past_of before.seen) stored
+    → IsWholeThen (numbers_of before.seen.profile) streams (past_of after.seen) depot'
+whole-backup standings champions files input name before streams objects told depot stored depot_told rules after depot' result has of_input legal entries was whole =
+    backup-whole standings champions files input name before streams objects told depot stored depot_told rules was whole after depot' result has of_input legal entries
+    (backup-has standings champions files input name before streams objects told depot after depot' result has of_input was.contents)
