@@ -48,7 +48,7 @@ use Rattle.stored_streams.proofs.CommittedLaws.{committed_kept, committed_manife
 use Rattle.stored_streams.proofs.LoadLaws.{loads_are, none}
 use Rattle.stored_streams.proofs.NameLaws.{same_object_text}
 use Rattle.stored_streams.proofs.PlanLaws.{places_newest, laid_own, end_own}
-use Rattle.whole_objects.specs.Keeps.{GoesOn, KeepsWanted, CommitsNothing}
+use Rattle.whole_objects.specs.Keeps.{GoesOn, IsNoObject, KeepsWanted, CommitsNothing}
 use Rattle.whole_objects.specs.Records.{laid_text, HoldRecords, HoldCommits, ArePut}
 use Rattle.whole_objects.proofs.FitLaws.{committed_fits, needed_low, containers_few}
 use Rattle.whole_objects.proofs.PutLaws.{container_name, manifest_apart, puts_told}
@@ -68,7 +68,7 @@ pub manifests_apart : (one other : ManifestId) → FitsManifest one → FitsMani
 unfolding manifest_of
 manifests_apart one other fits fits_too differ same = differ (ap manifest_of (same_object_text (ManifestObject one) (ManifestObject other) fits fits_too same))
 
-module _ (n : Numbers) (sound : AreSound n) (rules : Rules) (streams : Streams) (older : List Entry) (author session : ℕ) where
+module _ (n : Numbers) (sound : AreSound n) (rules : Rules) (streams : Streams) (older : List Entry) (author session : ℕ) (first : Objects) where
   -- what is asked of a history, so that it is known what the depot holds
   pub record IsAllowed (past : List Entry) : Type 0 where
     pub legal : is_legal rules past ≡ true
@@ -82,12 +82,14 @@ module _ (n : Numbers) (sound : AreSound n) (rules : Rules) (streams : Streams) 
     contents = record { contents = is.contents.contents.0; complete = is.contents.complete.0 };
   }
 
-  -- the history stores what the streams say, and the depot is whole, with just the records of the session's commits
+  -- The history stores what the streams say, and the depot is whole, with just the records of the session's commits.
+  -- What is no object is as it was at first.
   pub record Facts (past : List Entry) (plans : List Planned) (now : Objects) : Type 0 where
     pub planned : plans ≡ plans_of n streams past
     pub of_streams : IsOfStreams n streams past
     pub whole : IsWhole n streams past now
     pub hold : HoldCommits n streams session past now
+    pub others : (name : List ℕ) → IsNoObject name → bytes_of now name ≡ bytes_of first name
 
   pub record WholeSo (texts : List (List ℕ)) (newer : List Entry) (plans : List Planned) (shelf : ShelfView) : Type 0 where
     pub no_texts : texts ≡ []
@@ -146,6 +148,7 @@ module _ (n : Numbers) (sound : AreSound n) (rules : Rules) (streams : Streams) 
           };
           whole = behind (entry ∷ []) past now allowed.legal (All-cons (λ (e : Entry). CommitsNothing e.point) entry [] tt (All-nil (λ (e : Entry). CommitsNothing e.point))) facts.whole;
           hold = facts.hold;
+          others = facts.others;
         }
 
     choose_whole : (texts : List (List ℕ)) (newer : List Entry) (plans : List Planned) (shelf : ShelfView) (chosen : List Name) (ids : List ManifestId) → WholeSo texts newer plans shelf → WholeSo texts (made author (Choose session chosen ids) ∷ newer) plans shelf
@@ -302,6 +305,7 @@ module _ (n : Numbers) (sound : AreSound n) (rules : Rules) (streams : Streams) 
             of_streams = then_of;
             whole = commits next stored.content stored.text stored.chunks stored.bytes stored.fresh stored.fresh_bytes stored.uses.items past later allowed.legal allowed.entries then_of whole_before text_there records_then;
             hold = hold_later;
+            others = λ name no_object. bytes_of-insert_other told (manifest_name next) text name (no_object (ManifestObject next)) ∙ put.others.rest name no_object ∙ facts.others name no_object;
           }
 
       -- the same, whatever chunks, located manifests and plans are known to be these

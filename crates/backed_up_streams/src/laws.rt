@@ -81,7 +81,7 @@ pub fn streams_of_a_backup()
 {}
 
 /// Over a depot that is whole for a history of the streams such a backup leaves one that is whole for the longer history,
-/// and that one is of the streams without exception. It runs nothing.
+/// and that one is of the streams without exception. It changes no object but containers and manifests. It runs nothing.
 pub fn whole_of_a_backup()
     ensures { (streams : Streams) (objects stored : Objects) (rules : Rules) (standings champions : ℕ) (files : ShelfView) (input name : List ℕ) (before : IdleView) (depot : ShelfView) (after : IdleView) (depot' : ShelfView) (result : Result ℕ BackupFault)
         → BackupAnswer (λ came. came ≡ []) standings champions files input name before depot after depot' result
@@ -92,7 +92,7 @@ pub fn whole_of_a_backup()
         → All IsEntry (past_of after.seen)
         → IsOfStreams (numbers_of before.seen.profile) streams (past_of before.seen)
         → IsWhole (numbers_of before.seen.profile) streams (past_of before.seen) stored
-        → IsWholeThen (numbers_of before.seen.profile) streams (past_of after.seen) depot' }
+        → IsWholeThen (numbers_of before.seen.profile) streams (past_of after.seen) stored depot' }
 {}
 
 /// A collision stays one while a legal history goes on, and beside the reads of more handles. It runs nothing.
