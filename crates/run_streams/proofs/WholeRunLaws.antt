@@ -1,8 +1,8 @@
 -- A run leaves a whole store whole.
-use Rattle.std.proofs.Common.{◌≡◌, ℕ, ◌+◌, ◌≤◌, Bool, true, List, [], ◌∷◌, ◌++◌, length, reverse, map, take, codes, Option, Some, None, refl, sym, ap, ◌∙◌, subst, inl, inr, arith, append-nil, append_assoc, leb, leb-true}
+use Rattle.std.proofs.Common.{◌≡◌, ◌⊎◌, ℕ, ◌+◌, ◌≤◌, Bool, true, List, [], ◌∷◌, ◌++◌, length, reverse, map, take, Option, Some, None, refl, sym, ap, ◌∙◌, subst, inl, inr, arith, append-nil, append_assoc, leb, leb-true}
 use Rattle.std.specs.Prelude.{Ok, Err, Vec}
 use Rattle.std.specs.FinMap as map_of
-use Rattle.std.specs.Option.{option_map, unwrap_or}
+use Rattle.std.specs.Option.{unwrap_or}
 use Rattle.std.specs.List.{All, AllByRecursion}
 use Rattle.std.specs.declared.alloc.Global.{Global}
 use Rattle.std.proofs.lemmas.Bool.{and_parts}
@@ -15,11 +15,10 @@ use Rattle.ss_base.specs.declared.object.Object.{Object}
 use Rattle.ss_base.specs.declared.object.Object.TheVariants.{Container, Manifest}
 use Rattle.ss_base.specs.declared.profile.Numbers.{Numbers}
 use Rattle.ss_base.specs.declared.profile.Profile.{Profile}
-use Rattle.ss_base.specs.Ids.{has_object}
 use Rattle.ss_base.specs.ObjectName.{object_text}
 use Rattle.ss_base.specs.Profile.{numbers_of, AreSound}
 use Rattle.ss_base.proofs.IdLaws.{same_object-self}
-use Rattle.ss_base.proofs.MemberLaws.{In, in_any, append_in, reverse_in, All-from_in}
+use Rattle.ss_base.proofs.MemberLaws.{In, in_any, reverse_in, All-from_in}
 use Rattle.ss_base.proofs.SoundLaws.{AreSound-numbers_of}
 use Rattle.outside.specs.Shelf.{Objects, bytes_of, with_added, without_object}
 use Rattle.outside.specs.Views.{ShelfView, SinkView}
@@ -27,7 +26,7 @@ use Rattle.outside.specs.declared.trouble.Trouble.{Trouble}
 use Rattle.outside.proofs.ObjectLaws.{bytes_of-insert_same, bytes_of-insert_other, bytes_of-remove_other}
 use Rattle.journal_entry.specs.declared.entry.Entry.{Entry}
 use Rattle.journal_entry.specs.declared.entry.Point.{Point}
-use Rattle.journal_entry.specs.declared.entry.Point.TheVariants.{Commit, Reclaim as ReclaimPoint}
+use Rattle.journal_entry.specs.declared.entry.Point.TheVariants.{Commit}
 use Rattle.journal_entry.specs.Bounds.{IsEntry}
 use Rattle.journal_entry.specs.EntryText.{entry_text, entries_text}
 use Rattle.journal_entry.specs.Weight.{point_weight, weight}
@@ -40,7 +39,6 @@ use Rattle.history_laws.proofs.Allowed.{step}
 use Rattle.history_laws.proofs.SessionLaws.{has_now}
 use Rattle.journal_file.specs.Adding.{with_entries}
 use Rattle.journal_file.specs.Header.{journal_name, header_text}
-use Rattle.journal_file.specs.Journal.{IsJournal}
 use Rattle.journal_file.proofs.AnswerLaws.{one_journal}
 use Rattle.store_core.specs.declared.fault.PointFault.{PointFault}
 use Rattle.store_core.specs.declared.fault.PointFault.TheVariants as point
@@ -54,10 +52,11 @@ use Rattle.stored_streams.specs.OfStreams.{StoresNothing, IsOfStreams}
 use Rattle.stored_streams.specs.Whole.{IsWhole}
 use Rattle.stored_streams.proofs.NameLaws.{not_journal}
 use Rattle.stored_streams.proofs.StayLaws.{of_streams_stays, of_streams_before}
-use Rattle.whole_objects.specs.Keeps.{IsNoObject, KeepsWanted, CommitsNothing}
+use Rattle.whole_objects.specs.Keeps.{IsNoObject, CommitsNothing}
 use Rattle.whole_objects.proofs.EntryLaws.{whole_behind}
 use Rattle.whole_objects.proofs.KeepLaws.{whole_kept}
 use Rattle.whole_objects.proofs.ReclaimLaws.{whole_without}
+use Rattle.restored_streams.specs.Restored.{HasRestored, ChunksCollide}
 use Rattle.backed_up_streams.specs.OfInput.{IsOfInput}
 use Rattle.backed_up_streams.specs.WholeThen.{IsWholeThen}
 use Rattle.backed_up_streams.proofs.WholeBackupLaws.{whole-backup}
@@ -68,12 +67,13 @@ use Rattle.job_run.specs.Erasing.{IsErased, AreErased, HasReclaimed, LastReclaim
 use Rattle.job_run.specs.Erasing.HasReclaimed.{none, more}
 use Rattle.job_run.specs.Erasing.LastReclaim.{few, troubled, unmade}
 use Rattle.store_run.specs.JobRun.{Kept, KeepAnswer, HasDoneJob}
-use Rattle.store_run.specs.Opening.{store_limits, IsLegal, IsJournalOf}
+use Rattle.store_run.specs.Opening.{IsLegal, IsJournalOf}
 use Rattle.run_streams.specs.RunStreams.{HasFile, HasInput}
 use Rattle.run_streams.specs.WholeStores.{IsWholeStore, KeepsStore, KeepStore}
 use Rattle.run_streams.specs.WholeStores.KeepsStore.{job_done, only_read}
 use Rattle.run_streams.specs.WholeStores.KeepStore.{no_run, one_more}
 use Rattle.run_streams.proofs.OpenedLaws.{told_store, entries_in}
+use Rattle.run_streams.proofs.RestoreLaws.{whole_given_back}
 use Rattle.run_streams.proofs.PointLaws.{StoreNothing, restore_stores_nothing, delete_stores_nothing, stat_stores_nothing, reclaim_stores_nothing, entries_store_nothing}
 
 -- ---- entries that commit nothing
@@ -344,8 +344,7 @@ kept_depot n sound streams rules past first depot after [] legal entries held is
 kept_depot n sound streams rules past first depot after (entry ∷ new) legal entries held is =
     let text = bytes_of is.now journal_name ++ entries_text (entry ∷ new) in
     let now = map_of.insert is.now journal_name text in
-    let same : (object : Object) → bytes_of now (object_text object) ≡ bytes_of is.now (object_text object) = λ object. bytes_of-insert_other is.now journal_name text (object_text object) (λ e. not_journal object (sym e)) in
-    (
+    let same : (object : Object) → bytes_of now (object_text object) ≡ bytes_of is.now (object_text object) = λ object. bytes_of-insert_other is.now journal_name text (object_text object) (λ e. not_journal object (sym e)) in (
       now,
       held ∙ ap (λ (h : Option Objects). with_added h journal_name (entries_text (entry ∷ new))) is.held_is,
       bytes_of-insert_same is.now journal_name text ∙ ap (λ (b : List ℕ). b ++ entries_text (entry ∷ new)) (is.others journal_name no_journal),
@@ -378,8 +377,7 @@ run_keeps_store streams before after store (job_done kind sink sink' status done
     kept_depot (numbers_of done.store.profile) (AreSound-numbers_of done.store.profile) streams (rules_of 8 8 done.new) (past_of done.new) is.objects done.done.depot after.depot new done.legal entries
     (ap (λ (s : ShelfView). s.held) keeps.1) then_whole in
     let profile_same : done.store.profile ≡ done.new.profile = ap (λ (s : StateView). s.profile) (sym done.added) in
-    let journal = journal_more (bytes_of is.objects journal_name) done.store new opened.journal keeps.0 (subst IsLegal done.added done.legal) in
-    (
+    let journal = journal_more (bytes_of is.objects journal_name) done.store new opened.journal keeps.0 (subst IsLegal done.added done.legal) in (
       done.new,
       record {
         objects = now;
@@ -402,3 +400,14 @@ pub same_store : (streams : Streams) (depot : ShelfView) (one other : StateView)
 same_store streams depot one other is is_too =
     let objects : is_too.objects ≡ is.objects = ap (λ (h : Option Objects). unwrap_or h is.objects) (sym is_too.told ∙ is.told) in
     one_store (bytes_of is.objects journal_name) one other is.journal (subst (λ (o : Objects). IsJournalOf (bytes_of o journal_name) other) objects is_too.journal)
+
+-- a restore from a whole store
+pub whole_restored : (streams : Streams) (store : StateView) (name output : List ℕ) (before after : Shelves) (sink sink' : SinkView) → HasDoneJob (Restore name output) before after sink sink' 0 → IsWholeStore streams before.depot store
+    → ((count : ℕ) × HasRestored streams (past_of store) name output before.files after.files count) ⊎ ChunksCollide (numbers_of store.profile) streams (past_of store)
+whole_restored streams store name output before after sink sink' done is =
+    let opened = told_store before.depot done.opened.depot done.store is.objects done.opens is.told in
+    let same : done.store ≡ store = one_store (bytes_of is.objects journal_name) done.store store opened.journal is.journal in
+    let was = subst (λ (s : StateView). IsOfStreams (numbers_of s.profile) streams (past_of s)) (sym same) is.of_streams in
+    let whole = subst (λ (s : StateView). IsWhole (numbers_of s.profile) streams (past_of s) is.objects) (sym same) is.whole in
+    subst (λ (s : StateView). ((count : ℕ) × HasRestored streams (past_of s) name output before.files after.files count) ⊎ ChunksCollide (numbers_of s.profile) streams (past_of s)) same
+    (whole_given_back streams is.objects name output before after sink sink' done is.told was whole)

@@ -10,7 +10,7 @@ use Rattle.stored_streams.specs.Streams.{Streams}
 use Rattle.stored_streams.specs.OfStreams.{IsOfStreams}
 use Rattle.stored_streams.specs.Whole.{IsWhole}
 use Rattle.job_script.specs.declared.job.JobKind.{JobKind}
-use Rattle.store_run.specs.JobRun.{HasDoneJob, JobRun}
+use Rattle.store_run.specs.JobRun.{HasDoneJob}
 use Rattle.store_run.specs.Opening.{IsLegal, IsJournalOf}
 use Rattle.run_streams.specs.RunStreams.{HasInput}
 

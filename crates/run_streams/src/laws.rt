@@ -12,7 +12,7 @@ ghost use Rattle.stored_streams.specs.OfStreams.{IsOfStreams};
 ghost use Rattle.stored_streams.specs.Reads.{IsGiven};
 ghost use Rattle.stored_streams.specs.Reads.Reads.{held};
 ghost use Rattle.stored_streams.specs.Collision.{Collide};
-ghost use Rattle.restored_streams.specs.Restored.{HasRestored};
+ghost use Rattle.restored_streams.specs.Restored.{HasRestored, ChunksCollide};
 ghost use Rattle.job_script.specs.declared.job.JobKind.{JobKind};
 ghost use Rattle.job_script.specs.declared.job.JobKind.TheVariants.{Restore};
 ghost use Rattle.store_run.specs.JobRun.{HasDoneJob};
@@ -21,14 +21,20 @@ ghost use Rattle.run_streams.specs.WholeStores.{IsWholeStore, KeepsStore, KeepSt
 
 /// A restore that ends with status 0, in a store whose history is that of some streams, leaves as its output exactly the
 /// stream of the session that the name stands for, and no other file changes; or two different byte lists among those that
-/// were hashed have one SHA-256. The depot is told, and its objects may be anything. It runs nothing.
+/// were hashed have one SHA-256. The depot is told, and its objects may be anything; where the store is whole, the only
+/// exception is that two different chunks have one SHA-256. It runs nothing.
 pub fn restored_by_a_run()
-    ensures { (streams : Streams) (objects : Objects) (name output : List ℕ) (before after : Shelves) (sink sink' : SinkView)
+    ensures read { (streams : Streams) (objects : Objects) (name output : List ℕ) (before after : Shelves) (sink sink' : SinkView)
         → (done : HasDoneJob (Restore name output) before after sink sink' 0)
         → before.depot.held ≡ Some objects
         → IsOfStreams (numbers_of done.store.profile) streams (past_of done.store)
         → ((count : ℕ) × HasRestored streams (past_of done.store) name output before.files after.files count)
         ⊎ Collide (numbers_of done.store.profile) streams (past_of done.store) (IsGiven (held objects ∷ []) (past_of done.store)) }
+    ensures whole { (streams : Streams) (store : StateView) (name output : List ℕ) (before after : Shelves) (sink sink' : SinkView)
+        → HasDoneJob (Restore name output) before after sink sink' 0
+        → IsWholeStore streams before.depot store
+        → ((count : ℕ) × HasRestored streams (past_of store) name output before.files after.files count)
+        ⊎ ChunksCollide (numbers_of store.profile) streams (past_of store) }
 {}
 
 /// A run of any job leaves the history of its store one of the streams, or two different byte lists among those that were
