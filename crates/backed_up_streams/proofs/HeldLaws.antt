@@ -29,14 +29,13 @@ use Rattle.outside.specs.Shelf.{Objects, bytes_of, part_of}
 use Rattle.outside.specs.Views.{ShelfView}
 use Rattle.outside.proofs.ObjectLaws.{bytes_of-insert_same, bytes_of-insert_other}
 use Rattle.journal_entry.specs.declared.entry.Entry.{Entry}
-use Rattle.journal_entry.specs.declared.entry.Point.{Point}
-use Rattle.journal_entry.specs.declared.entry.Point.TheVariants.{Choose, Commit}
-use Rattle.journal_entry.specs.Bounds.{IsEntry, PointFits, FitsManifest}
+use Rattle.journal_entry.specs.declared.entry.Point.TheVariants.{Choose}
+use Rattle.journal_entry.specs.Bounds.{IsEntry, FitsManifest}
 use Rattle.history.specs.declared.rules.Rules.{Rules}
 use Rattle.history.specs.Legal.{is_legal}
 use Rattle.history.specs.Need.{commits_manifest}
 use Rattle.history.specs.Sessions.{commits_of, has, newest}
-use Rattle.history_laws.proofs.SessionLaws.{has_now, has_older, has_cases, has_none, committed_below}
+use Rattle.history_laws.proofs.SessionLaws.{has_now, has_older, has_cases, committed_below}
 use Rattle.store_core.specs.declared.values.Stored.{Stored}
 use Rattle.store_core.specs.View.{KeptView, kept, kept_by, made}
 use Rattle.depot.specs.Loading.{IsLoaded}

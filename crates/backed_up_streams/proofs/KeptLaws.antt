@@ -16,7 +16,7 @@ use Rattle.history.specs.Sessions.{has, newest, commits, commits_of, chooses, se
 use Rattle.history_laws.proofs.SessionLaws.{has_none, has_cases}
 use Rattle.store_core.specs.View.{KeptView, kept, kept_by, all_kept, made}
 use Rattle.stored_streams.specs.Streams.{Streams}
-use Rattle.stored_streams.specs.Plans.{Planned, no_containers, last_plan, end_of, plan_for, next_plan, plans_after, plans_of}
+use Rattle.stored_streams.specs.Plans.{no_containers, last_plan, end_of, plan_for, next_plan, plans_after, plans_of}
 use Rattle.stored_streams.proofs.CommittedLaws.{kept_older}
 use Rattle.backed_up_streams.proofs.ContentLaws.{self}
 
@@ -99,10 +99,6 @@ module _ (author session : ℕ) (hooks : List Name) (ids : List ManifestId) (pas
   count_behind = refl
 
 -- ---- the containers of a session
-
-pub end_newest : (p : Planned) (session : ℕ) (plans : List Planned) → (p.id.session == session) ≡ true → end_of session (p ∷ plans) ≡ p.end
-unfolding end_of last_plan
-end_newest p session plans is = rw is refl
 
 other_session : (session other : ℕ) → (session == other) ≡ false → (other == session) ≡ false
 other_session session other differ = false_from_ne_true _ (λ same. false≢true (sym differ ∙ eq-eqb session other (sym (eqb-true other session same))))

@@ -34,13 +34,13 @@ use Rattle.stored_streams.specs.Streams.{Streams, manifest_chunks, manifest_piec
 use Rattle.stored_streams.specs.Plans.{Planned, planned_places, end_of, plan_for, plans_of}
 use Rattle.stored_streams.specs.OfStreams.{next_of, StoresSegment}
 use Rattle.stored_streams.specs.Loads.{Loads, loaded_after, loaded_plans, IsLoadOf, AreLoadsOf, AbortsLoaded, LoadedOf, StoresLoaded}
-use Rattle.stored_streams.proofs.CommittedLaws.{kept_older}
+use Rattle.stored_streams.proofs.PlanLaws.{end_own}
 use Rattle.backed_up_streams.proofs.ContentLaws.{self}
 use Rattle.backed_up_streams.proofs.GaveLaws.{GaveMore}
 use Rattle.backed_up_streams.proofs.LeftLaws.{HasPutSome, IsLeft}
 use Rattle.backed_up_streams.proofs.LeftLaws.IsLeft.{untouched, put_some}
 use Rattle.backed_up_streams.proofs.SegmentLaws.{item_behind, next_chunks}
-use Rattle.backed_up_streams.proofs.KeptLaws.{IsKept, kept_there, all_kept-first, end_newest, end_at_first}
+use Rattle.backed_up_streams.proofs.KeptLaws.{IsKept, kept_there, all_kept-first, end_at_first}
 
 -- loads by the numbers of their commits
 abbrev pub loads_of : List (List Located) → Loads
@@ -388,7 +388,7 @@ module _ (n : Numbers) (streams : Streams) (older : List Entry) (author session 
               lists_count = omega (arith, lists_count, longer, lists_longer);
               plans = plan_for n streams next against so.plans ∷ so.plans;
               plans_are = λ tail. ap (λ (ls : List (List Located)). loaded_plans n streams (loads_of ls) (commit_it ∷ so.newer) older) (one_list tail) ∙ plans_now tail;
-              end_is = end_newest (plan_for n streams next against so.plans) session so.plans (next_session against) ∙ end_laid;
+              end_is = end_own (plan_for n streams next against so.plans) session so.plans (next_session against) ∙ end_laid;
               texts = loads_now.gave;
               told =
                   subst (λ (p : List Entry). Told loads_now.gave (commit_it ∷ so.newer) (plan_for n streams next against so.plans ∷ so.plans) (after_segment (after_loads shelf (all_kept ids p) manifests) next chunks against end n.room)) (sym so.past_is)

@@ -1,12 +1,10 @@
 -- A backup leaves a whole depot whole.
-use Rattle.std.proofs.Common.{◌≡◌, ◌≢◌, ℕ, ◌<◌, ◌≤◌, ◌^◌, true, false, List, [], ◌∷◌, ◌++◌, Option, Some, Result, Ok, Err, refl, sym, ap, ◌∙◌, subst, inl, inr, arith, append-nil}
+use Rattle.std.proofs.Common.{◌≡◌, ◌≢◌, ℕ, ◌<◌, ◌≤◌, ◌^◌, true, false, List, [], ◌∷◌, ◌++◌, Option, None, Some, Result, Ok, Err, refl, sym, ap, ◌∙◌, subst, inl, inr, arith, append-nil}
 use Rattle.std.specs.FinMap as map_of
-use Rattle.std.specs.Option.{option_map, unwrap_or}
 use Rattle.std.specs.List.{All}
 use Rattle.std.proofs.lemmas.Bool.{false≢true}
 use Rattle.std.proofs.lemmas.Bool.Decides.{eqb_tells}
 use Rattle.std.proofs.lemmas.List.Elements.{All-nil, All-cons, All-head}
-use Rattle.ss_base.specs.declared.ids.ContainerId.{ContainerId}
 use Rattle.ss_base.specs.declared.ids.ManifestId.{ManifestId}
 use Rattle.ss_base.specs.declared.object.Object.{Object}
 use Rattle.ss_base.specs.declared.object.Object.TheVariants.{Container, Manifest as ManifestObject}
@@ -26,11 +24,10 @@ use Rattle.journal_entry.specs.declared.entry.Point.TheVariants.{Abort, Commit}
 use Rattle.journal_entry.specs.Bounds.{IsEntry, PointFits}
 use Rattle.history.specs.declared.rules.Rules.{Rules}
 use Rattle.history.specs.Legal.{is_legal}
-use Rattle.history.specs.Need.{commits_manifest, is_live, is_needed}
+use Rattle.history.specs.Need.{commits_manifest, is_live}
 use Rattle.history.specs.Sessions.{has, commits_of}
 use Rattle.history_laws.proofs.SessionLaws.{committed_below}
 use Rattle.store_core.specs.View.{made}
-use Rattle.depot.specs.Calls.{after_create}
 use Rattle.depot.specs.Storing.{after_puts}
 use Rattle.segment_store.specs.Stored.{text_against}
 use Rattle.stored_streams.specs.Streams.{Streams}
@@ -40,15 +37,39 @@ use Rattle.stored_streams.specs.Loads.{StoresLoaded}
 use Rattle.stored_streams.specs.Whole.{IsWhole}
 use Rattle.stored_streams.proofs.LoadLaws.{stores_planned}
 use Rattle.stored_streams.proofs.NameLaws.{same_small, small}
-use Rattle.whole_objects.specs.Keeps.{GoesOn, KeepsWanted, CommitsNothing}
+use Rattle.whole_objects.specs.Keeps.{IsNoObject, KeepsWanted, CommitsNothing}
 use Rattle.whole_objects.proofs.FitLaws.{committed_fits, needed_low, commits_few}
-use Rattle.whole_objects.proofs.PutLaws.{container_name, manifest_apart, Grow, HasGrown, grow-then}
+use Rattle.whole_objects.proofs.PutLaws.{container_name, manifest_apart, Grow}
 use Rattle.whole_objects.proofs.RecordLaws.{put-laid, put-stopped}
 use Rattle.backed_up_streams.proofs.LeftLaws.{HasPutSome, IsLeft}
 use Rattle.backed_up_streams.proofs.LeftLaws.HasPutSome.{stopped, unwritten, all_done}
 use Rattle.backed_up_streams.proofs.LeftLaws.IsLeft.{untouched, put_some}
 use Rattle.backed_up_streams.proofs.LoadLaws.{live_committed, IsTelling, HasEnded}
 use Rattle.backed_up_streams.proofs.WholeLaws.{IsAllowed, allowed_before, Facts, WholeSo}
+use Rattle.ss_base.specs.Profile.{numbers_of}
+use Rattle.ss_base.proofs.SoundLaws.{AreSound-numbers_of}
+use Rattle.journal_entry.specs.declared.entry.Point.TheVariants.{Begin}
+use Rattle.history.specs.Sessions.{commits}
+use Rattle.store_core.specs.View.{past_of}
+use Rattle.depot.specs.declared.fault.BackupFault.{BackupFault}
+use Rattle.history_calls.specs.Tokens.{IdleView}
+use Rattle.history_calls.proofs.TurnLaws.{begun_open}
+use Rattle.session.specs.Backup.{HasStarted, BackupAnswer}
+use Rattle.session.specs.Backup.HasNotBackedUp.{not_started, given_up}
+use Rattle.stored_streams.specs.OfStreams.{StoresNothing}
+use Rattle.stored_streams.specs.Plans.{plans_after}
+use Rattle.stored_streams.proofs.StayLaws.{of_streams_stays}
+use Rattle.whole_objects.proofs.EntryLaws.{whole_behind}
+use Rattle.whole_objects.proofs.KeepLaws.{whole_kept}
+use Rattle.whole_objects.proofs.CommitLaws.{whole_committed}
+use Rattle.backed_up_streams.specs.WholeThen.{IsWholeThen}
+use Rattle.backed_up_streams.specs.OfInput.{IsOfInput}
+use Rattle.backed_up_streams.proofs.AloneLaws.{alone}
+use Rattle.backed_up_streams.proofs.BackupLaws.{begin_steps, backup-has, finished-of_input, failed-of_input}
+use Rattle.backed_up_streams.proofs.KeptLaws.{end_at_first}
+use Rattle.backed_up_streams.proofs.RunLaws.{finished-run, failed-run}
+use Rattle.backed_up_streams.proofs.UnstartedLaws.{AddsNoSession, unstarted-adds}
+use Rattle.backed_up_streams.proofs.WholeLaws.{is_whole_telling}
 
 abbrev manifest_name : ManifestId → List ℕ
 manifest_name id = object_text (ManifestObject id)
@@ -63,23 +84,17 @@ unfolding commits_manifest
 nothing_committed (Commit id content text chunks bytes fresh fresh_bytes uses) none = absurd (false≢true (sym (none id) ∙ same_manifest-self id))
 nothing_committed _ none = tt
 
-pub record IsWholeThen (n : Numbers) (streams : Streams) (past : List Entry) (depot : ShelfView) : Type 0 where
-  pub now : Objects
-  pub held_is : depot.held ≡ Some now
-  pub of_streams : IsOfStreams n streams past
-  pub whole : IsWhole n streams past now
-
-module _ (n : Numbers) (sound : AreSound n) (rules : Rules) (streams : Streams) (older : List Entry) (author session : ℕ)
+module _ (n : Numbers) (sound : AreSound n) (rules : Rules) (streams : Streams) (older : List Entry) (author session : ℕ) (first : Objects)
     (keeps : (past : List Entry) (objects now : Objects) → is_legal rules past ≡ true → All IsEntry past → IsOfStreams n streams past → IsWhole n streams past objects → KeepsWanted n streams past objects now → IsWhole n streams past now)
     (behind : (newer past : List Entry) (objects : Objects) → is_legal rules (newer ++ past) ≡ true → All (λ (entry : Entry). CommitsNothing entry.point) newer → IsWhole n streams past objects → IsWhole n streams (newer ++ past) objects) where
   abbrev Told : List (List ℕ) → List Entry → List Planned → ShelfView → Type 0
-  Told = WholeSo n sound rules streams older author session
+  Told = WholeSo n sound rules streams older author session first
 
   abbrev Allowed : List Entry → Type 0
-  Allowed = IsAllowed n sound rules streams older author session
+  Allowed = IsAllowed n sound rules streams older author session first
 
   abbrev FactsOf : List Entry → List Planned → Objects → Type 0
-  FactsOf = Facts n sound rules streams older author session
+  FactsOf = Facts n sound rules streams older author session first
 
   -- ---- what is left of a segment that was not committed
 
@@ -118,18 +133,21 @@ module _ (n : Numbers) (sound : AreSound n) (rules : Rules) (streams : Streams) 
       later : Objects
       held_is : after.held ≡ Some later
       wanted : KeepsWanted n streams past now later
+      others : (name : List ℕ) → IsNoObject name → bytes_of later name ≡ bytes_of now name
 
     create_left : (now told : Objects) (text : List ℕ) (before after : ShelfView) → Grow session (containers_of n streams session past) now told → before.held ≡ Some told → CreateLeaves before.held after.held (manifest_name next) text → IsKeptThen now after
-    create_left now told text before after grow held (inl same) = record { later = told; held_is = same ∙ held; wanted = keeps_wanted now told told grow (λ q differ. refl) }
+    create_left now told text before after grow held (inl same) = record { later = told; held_is = same ∙ held; wanted = keeps_wanted now told told grow (λ q differ. refl); others = grow.others.rest }
     create_left now told text before after grow held (inr (inl (front, back, text_is, made_it))) = record {
       later = map_of.insert told (manifest_name next) front;
       held_is = made_it ∙ ap (λ (h : Option Objects). with_object h (manifest_name next) front) held;
       wanted = keeps_wanted now told (map_of.insert told (manifest_name next) front) grow (λ q differ. bytes_of-insert_other told (manifest_name next) front q differ);
+      others = λ name none. bytes_of-insert_other told (manifest_name next) front name (none (ManifestObject next)) ∙ grow.others.rest name none;
     }
     create_left now told text before after grow held (inr (inr gone)) = record {
       later = map_of.remove told (manifest_name next);
       held_is = gone ∙ ap (λ (h : Option Objects). without_object h (manifest_name next)) held;
       wanted = keeps_wanted now told (map_of.remove told (manifest_name next)) grow (λ q differ. bytes_of-remove_other told (manifest_name next) q differ);
+      others = λ name none. bytes_of-remove_other told (manifest_name next) name (none (ManifestObject next)) ∙ grow.others.rest name none;
     }
 
     module _ (now : Objects) (before : ShelfView) (held : before.held ≡ Some now) (facts : FactsOf past (plans_of n streams past) now) (chunks : List (List ℕ)) (against : List Located) (few : (end_against chunks against (end_of session (plans_of n streams past)) n.room).containers ≤ 2 ^ 32) where
@@ -148,7 +166,7 @@ module _ (n : Numbers) (sound : AreSound n) (rules : Rules) (streams : Streams) 
       unfolding containers_of
       left_so after (stopped trouble failed) =
           let grown = put-stopped n streams session past chunks against before now low after trouble few held failed in
-          record { later = grown.now; held_is = grown.held_is; wanted = keeps_wanted now grown.now grown.now grown.grow (λ q differ. refl) }
+          record { later = grown.now; held_is = grown.held_is; wanted = keeps_wanted now grown.now grown.now grown.grow (λ q differ. refl); others = grown.grow.others.rest }
       left_so after (unwritten trouble failed) =
           let put = put_then in
           create_left now put.told (text_against chunks against (end_of session (plans_of n streams past)) n.room) (after_puts before (puts_against chunks against (end_of session (plans_of n streams past)) n.room)) after put.grow put.held_is failed.objects
@@ -160,6 +178,7 @@ module _ (n : Numbers) (sound : AreSound n) (rules : Rules) (streams : Streams) 
             later = map_of.insert put.told (manifest_name next) text;
             held_is = ap (λ (s : ShelfView). s.held) done ∙ ap (λ (h : Option Objects). with_object h (manifest_name next) text) put.held_is;
             wanted = keeps_wanted now put.told (map_of.insert put.told (manifest_name next) text) put.grow (λ q differ. bytes_of-insert_other put.told (manifest_name next) text q differ);
+            others = λ name none. bytes_of-insert_other put.told (manifest_name next) text name (none (ManifestObject next)) ∙ put.grow.others.rest name none;
           }
 
   -- ---- how a session ends
@@ -175,7 +194,7 @@ module _ (n : Numbers) (sound : AreSound n) (rules : Rules) (streams : Streams) 
     allowed_now = subst Allowed ended.past_is allowed
 
     facts_then : FactsOf before_last ended.then_plans ended.told.now
-    facts_then = ended.told.facts (allowed_before n sound rules streams older author session ended.last before_last allowed_now)
+    facts_then = ended.told.facts (allowed_before n sound rules streams older author session first ended.last before_last allowed_now)
 
     loads_now : StoresLoaded n streams ended.loads (λ b. ⊥) (ended.last ∷ ended.then_newer) older
     loads_now = ended.stores allowed_now [] (λ b there. subst (λ (ts : List (List ℕ)). In b ts) ended.told.no_texts there)
@@ -187,15 +206,16 @@ module _ (n : Numbers) (sound : AreSound n) (rules : Rules) (streams : Streams) 
     }
 
     then_allowed : Allowed before_last
-    then_allowed = allowed_before n sound rules streams older author session ended.last before_last allowed_now
+    then_allowed = allowed_before n sound rules streams older author session first ended.last before_last allowed_now
 
     record IsLater : Type 0 where
       later : Objects
       held_is : after.held ≡ Some later
       whole : IsWhole n streams before_last later
+      others : (name : List ℕ) → IsNoObject name → bytes_of later name ≡ bytes_of first name
 
     left_now : IsLeft n author session ended.count ended.last ended.then_plans ended.then_shelf after → IsLater
-    left_now (untouched same) = record { later = ended.told.now; held_is = same ∙ ended.told.held_is; whole = facts_then.whole }
+    left_now (untouched same) = record { later = ended.told.now; held_is = same ∙ ended.told.held_is; whole = facts_then.whole; others = facts_then.others }
     left_now (put_some chunks against written last_is some) =
         let at_plans = subst (λ (ps : List Planned). ended.last ≡ made author (Abort session (end_against chunks against (end_of session ps) n.room).containers written)) facts_then.planned last_is in
         let some_then = subst (λ (ps : List Planned). HasPutSome (record { session = session; seq = ended.count }) chunks against (end_of session ps) n.room ended.then_shelf after) facts_then.planned some in
@@ -207,9 +227,10 @@ module _ (n : Numbers) (sound : AreSound n) (rules : Rules) (streams : Streams) 
           later = kept.later;
           held_is = kept.held_is;
           whole = keeps before_last ended.told.now kept.later then_allowed.legal then_allowed.entries facts.of_streams facts.whole kept.wanted;
+          others = λ name none. kept.others name none ∙ facts_then.others name none;
         }
 
-    pub ended-whole : IsWholeThen n streams past after
+    pub ended-whole : IsWholeThen n streams past first after
     ended-whole =
         let is = left_now ended.left in
         record {
@@ -220,6 +241,7 @@ module _ (n : Numbers) (sound : AreSound n) (rules : Rules) (streams : Streams) 
               subst (λ (p : List Entry). IsWhole n streams p is.later) (sym ended.past_is)
               (behind (ended.last ∷ []) before_last is.later allowed_now.legal
               (All-cons (λ (e : Entry). CommitsNothing e.point) ended.last [] (nothing_committed ended.last.point ended.commits_none) (All-nil (λ (e : Entry). CommitsNothing e.point))) is.whole);
+          others = is.others;
         }
 
 -- ---- a backup
@@ -236,17 +258,17 @@ module _ (standings champions : ℕ) (files : ShelfView) (input name : List ℕ)
   the_past = past_of before.seen
 
   keep : (past : List Entry) (held now : Objects) → is_legal rules past ≡ true → All IsEntry past → IsOfStreams numbers streams past → IsWhole numbers streams past held → KeepsWanted numbers streams past held now → IsWhole numbers streams past now
-  keep past held now legal entries of_streams whole wanted = kept_whole numbers streams rules past held now sound_numbers legal entries of_streams whole wanted
+  keep past held now legal entries of_streams whole wanted = whole_kept numbers streams rules past held now sound_numbers legal entries of_streams whole wanted
 
   no_commits : (newer past : List Entry) (held : Objects) → is_legal rules (newer ++ past) ≡ true → All (λ (entry : Entry). CommitsNothing entry.point) newer → IsWhole numbers streams past held → IsWhole numbers streams (newer ++ past) held
   no_commits newer past held legal nothing whole = whole_behind numbers streams rules newer past held legal nothing whole
 
   -- no session began
-  added-whole : (after : IdleView) → AddsNoSession standings champions files input name before after → is_legal rules (past_of after.seen) ≡ true → IsWholeThen numbers streams (past_of after.seen) depot
-  added-whole after (inl same) legal = subst (λ (p : List Entry). IsWholeThen numbers streams p depot) (sym same) (record { now = stored; held_is = depot_told; of_streams = was; whole = was_whole })
+  added-whole : (after : IdleView) → AddsNoSession standings champions files input name before after → is_legal rules (past_of after.seen) ≡ true → IsWholeThen numbers streams (past_of after.seen) stored depot
+  added-whole after (inl same) legal = subst (λ (p : List Entry). IsWholeThen numbers streams p stored depot) (sym same) (record { now = stored; held_is = depot_told; of_streams = was; whole = was_whole; others = λ other_name none. refl })
   added-whole after (inr is) legal =
       let entry = made before.author (Begin name None) in
-      subst (λ (p : List Entry). IsWholeThen numbers streams p depot) (sym is)
+      subst (λ (p : List Entry). IsWholeThen numbers streams p stored depot) (sym is)
       (record {
         now = stored;
         held_is = depot_told;
@@ -254,6 +276,7 @@ module _ (standings champions : ℕ) (files : ShelfView) (input name : List ℕ)
         whole =
             no_commits (entry ∷ []) the_past stored (subst (λ (p : List Entry). is_legal rules p ≡ true) is legal)
             (All-cons (λ (e : Entry). CommitsNothing e.point) entry [] tt (All-nil (λ (e : Entry). CommitsNothing e.point))) was_whole;
+        others = λ other_name none. refl;
       })
 
   module _ (started : HasStarted alone standings champions files input name before) where
@@ -264,40 +287,42 @@ module _ (standings champions : ℕ) (files : ShelfView) (input name : List ℕ)
     begin_it = made before.author (Begin name (Some the_session))
 
     abbrev ToldIs : List (List ℕ) → List Entry → List Planned → ShelfView → Type 0
-    ToldIs = WholeSo numbers sound_numbers rules streams the_past before.author the_session
+    ToldIs = WholeSo numbers sound_numbers rules streams the_past before.author the_session stored
 
     abbrev AllowedIs : List Entry → Type 0
-    AllowedIs = IsAllowed numbers sound_numbers rules streams the_past before.author the_session
+    AllowedIs = IsAllowed numbers sound_numbers rules streams the_past before.author the_session stored
 
     abbrev tells : IsTelling numbers streams the_past before.author the_session ToldIs AllowedIs
-    tells = is_whole_telling numbers sound_numbers rules streams the_past before.author the_session no_commits keep
-    (λ id content text chunks bytes fresh fresh_bytes uses past held legal entries of_streams whole text_there records. committed_whole numbers streams rules before.author id content text chunks bytes fresh fresh_bytes uses past held sound_numbers legal entries of_streams whole text_there records)
+    tells =
+        is_whole_telling numbers sound_numbers rules streams the_past before.author the_session stored no_commits keep
+        (λ id content text chunks bytes fresh fresh_bytes uses past held legal entries of_streams whole text_there records. whole_committed numbers streams rules before.author id content text chunks bytes fresh fresh_bytes uses past held sound_numbers legal entries of_streams whole text_there records)
 
     none_yet : commits_of the_session the_past ≡ 0
     unfolding commits_of commits
     none_yet =
-        ap (commits_of the_session) (sym (begins_with standings champions files input name before streams objects told started))
+        ap (commits_of the_session) (sym (begin_steps standings champions files input name before streams objects told started).past)
         ∙ (begun_open alone standings champions before.author the_session name before.seen started.caller.seen started.begun.at_turn).commit_count
 
-    first_facts : AllowedIs (begin_it ∷ the_past) → Facts numbers sound_numbers rules streams the_past before.author the_session (begin_it ∷ the_past) (plans_of numbers streams the_past) stored
+    first_facts : AllowedIs (begin_it ∷ the_past) → Facts numbers sound_numbers rules streams the_past before.author the_session stored (begin_it ∷ the_past) (plans_of numbers streams the_past) stored
     unfolding plans_of plans_after
     first_facts allowed = record {
       planned = refl;
       of_streams = of_streams_stays numbers streams (begin_it ∷ []) the_past (All-cons (λ (e : Entry). StoresNothing e.point) begin_it [] tt (All-nil (λ (e : Entry). StoresNothing e.point))) was;
       whole = no_commits (begin_it ∷ []) the_past stored allowed.legal (All-cons (λ (e : Entry). CommitsNothing e.point) begin_it [] tt (All-nil (λ (e : Entry). CommitsNothing e.point))) was_whole;
       hold = λ ordinal below. let none = ap (λ (e : ContainerEnd). e.containers) (end_at_first numbers streams the_session the_past none_yet) in absurd (omega (arith, below, none));
+      others = λ other_name none. refl;
     }
 
     at_first : ToldIs [] (begin_it ∷ []) (plans_of numbers streams the_past) depot
     at_first = record { no_texts = refl; now = stored; held_is = depot_told; facts = first_facts }
 
-    run-whole : (after : IdleView) (depot' : ShelfView) → HasEnded numbers streams the_past before.author the_session ToldIs AllowedIs tells (past_of after.seen) depot' → AllowedIs (past_of after.seen) → IsWholeThen numbers streams (past_of after.seen) depot'
+    run-whole : (after : IdleView) (depot' : ShelfView) → HasEnded numbers streams the_past before.author the_session ToldIs AllowedIs tells (past_of after.seen) depot' → AllowedIs (past_of after.seen) → IsWholeThen numbers streams (past_of after.seen) stored depot'
     run-whole after depot' ended allowed =
-        ended-whole numbers sound_numbers rules streams the_past before.author the_session keep no_commits tells (past_of after.seen) depot' ended allowed was
+        ended-whole numbers sound_numbers rules streams the_past before.author the_session stored keep no_commits tells (past_of after.seen) depot' ended allowed was
 
   pub backup-whole : (after : IdleView) (depot' : ShelfView) (result : Result ℕ BackupFault) → BackupAnswer alone standings champions files input name before depot after depot' result
       → IsOfInput streams (past_of before.seen) (past_of after.seen) (bytes_of objects input) → is_legal rules (past_of after.seen) ≡ true → All IsEntry (past_of after.seen) → HasContents numbers streams (past_of after.seen)
-      → IsWholeThen numbers streams (past_of after.seen) depot'
+      → IsWholeThen numbers streams (past_of after.seen) stored depot'
   backup-whole after depot' (Ok number) has of_input legal entries contents =
       let started = has.started in
       let streamed = has.streamed in
@@ -306,9 +331,18 @@ module _ (standings champions : ℕ) (files : ShelfView) (input name : List ℕ)
       (finished-run standings champions files input name before streams objects told started (ToldIs started) (AllowedIs started) (tells started) depot (at_first started) stream_is streamed.last after depot' streamed.finished)
       (record { legal = legal; entries = entries; contents = contents })
   backup-whole after depot' (Err fault) (not_started same has) of_input legal entries contents =
-      subst (λ (d : ShelfView). IsWholeThen numbers streams (past_of after.seen) d) (sym same) (added-whole after (unstarted-adds standings champions files input name before after fault has) legal)
+      subst (λ (d : ShelfView). IsWholeThen numbers streams (past_of after.seen) stored d) (sym same) (added-whole after (unstarted-adds standings champions files input name before after fault has) legal)
   backup-whole after depot' (Err fault) (given_up started streamed) of_input legal entries contents =
       let stream_is = failed-of_input standings champions files input name before streams objects told started streamed.last depot after depot' fault streamed.failed of_input in
       run-whole started after depot'
       (failed-run standings champions files input name before streams objects told started (ToldIs started) (AllowedIs started) (tells started) depot (at_first started) stream_is streamed.last after depot' fault streamed.failed)
       (record { legal = legal; entries = entries; contents = contents })
+
+pub whole-backup : (standings champions : ℕ) (files : ShelfView) (input name : List ℕ) (before : IdleView) (streams : Streams) (objects : Objects) → files.held ≡ Some objects → (depot : ShelfView) (stored : Objects) → depot.held ≡ Some stored → (rules : Rules) (after : IdleView) (depot' : ShelfView) (result : Result ℕ BackupFault)
+    → BackupAnswer alone standings champions files input name before depot after depot' result
+    → IsOfInput streams (past_of before.seen) (past_of after.seen) (bytes_of objects input) → is_legal rules (past_of after.seen) ≡ true → All IsEntry (past_of after.seen)
+    → IsOfStreams (numbers_of before.seen.profile) streams (past_of before.seen) → IsWhole (numbers_of before.seen.profile) streams (past_of before.seen) stored
+    → IsWholeThen (numbers_of before.seen.profile) streams (past_of after.seen) stored depot'
+whole-backup standings champions files input name before streams objects told depot stored depot_told rules after depot' result has of_input legal entries was whole =
+    backup-whole standings champions files input name before streams objects told depot stored depot_told rules was whole after depot' result has of_input legal entries
+    (backup-has standings champions files input name before streams objects told depot after depot' result has of_input was.contents)

@@ -1,9 +1,8 @@
 -- A depot stays whole while a session goes on.
-use Rattle.std.proofs.Common.{◌≡◌, ◌≢◌, ℕ, ◌==◌, ◌*◌, ◌<◌, ◌≤◌, ◌^◌, ◌⊎◌, true, false, List, [], ◌∷◌, ◌++◌, length, map, Option, Some, IfSome, refl, sym, ap, ◌∙◌, subst, inl, inr, arith, append-nil}
+use Rattle.std.proofs.Common.{◌≡◌, ◌≢◌, ℕ, ◌*◌, ◌<◌, ◌≤◌, ◌^◌, true, List, [], ◌∷◌, ◌++◌, length, Option, Some, IfSome, refl, sym, ap, ◌∙◌, subst, inl, inr, arith, append-nil}
 use Rattle.std.specs.FinMap as map_of
 use Rattle.std.specs.Option.{option_map, unwrap_or}
 use Rattle.std.specs.List.{All}
-use Rattle.std.proofs.lemmas.Bool.{eqb-true, eq-eqb}
 use Rattle.std.proofs.lemmas.Bool.Decides.{eqb_tells}
 use Rattle.std.proofs.lemmas.List.{take_all}
 use Rattle.std.proofs.lemmas.List.Elements.{All-nil, All-cons, All-head, All-tail}
@@ -21,7 +20,6 @@ use Rattle.manifest_codec.specs.declared.manifest.Manifest.{Manifest}
 use Rattle.manifest_codec.specs.Text.{manifest_text}
 use Rattle.manifest_codec.proofs.TextLaws.{length-manifest_text}
 use Rattle.container_file.specs.declared.container_end.ContainerEnd.{ContainerEnd}
-use Rattle.container_file.specs.Layout.{Laid}
 use Rattle.segment_plan.specs.Plan.{Located, laid_against, places_against, end_against, puts_against}
 use Rattle.outside.specs.Shelf.{Objects, bytes_of, part_of}
 use Rattle.outside.specs.Views.{ShelfView}
@@ -31,8 +29,8 @@ use Rattle.journal_entry.specs.declared.entry.Point.TheVariants.{Choose, Commit}
 use Rattle.journal_entry.specs.Bounds.{IsEntry, FitsManifest}
 use Rattle.history.specs.declared.rules.Rules.{Rules}
 use Rattle.history.specs.Legal.{is_legal}
-use Rattle.history.specs.Need.{commits_manifest, is_live, is_needed}
-use Rattle.history.specs.Sessions.{has, commits_of, pending_champions}
+use Rattle.history.specs.Need.{is_live, is_needed}
+use Rattle.history.specs.Sessions.{commits_of, pending_champions}
 use Rattle.history_laws.proofs.Allowed.{step}
 use Rattle.history_laws.proofs.SessionLaws.{committed_below}
 use Rattle.store_core.specs.declared.values.Stored.{Stored}
@@ -49,12 +47,12 @@ use Rattle.stored_streams.specs.Whole.{HasRecords, IsWhole}
 use Rattle.stored_streams.proofs.CommittedLaws.{committed_kept, committed_manifest, kept_counts}
 use Rattle.stored_streams.proofs.LoadLaws.{loads_are, none}
 use Rattle.stored_streams.proofs.NameLaws.{same_object_text}
-use Rattle.stored_streams.proofs.PlanLaws.{places_newest}
-use Rattle.whole_objects.specs.Keeps.{GoesOn, KeepsWanted, CommitsNothing}
+use Rattle.stored_streams.proofs.PlanLaws.{places_newest, laid_own, end_own}
+use Rattle.whole_objects.specs.Keeps.{GoesOn, IsNoObject, KeepsWanted, CommitsNothing}
 use Rattle.whole_objects.specs.Records.{laid_text, HoldRecords, HoldCommits, ArePut}
 use Rattle.whole_objects.proofs.FitLaws.{committed_fits, needed_low, containers_few}
 use Rattle.whole_objects.proofs.PutLaws.{container_name, manifest_apart, puts_told}
-use Rattle.whole_objects.proofs.RecordLaws.{put-laid, laid_own, end_own}
+use Rattle.whole_objects.proofs.RecordLaws.{put-laid}
 use Rattle.backed_up_streams.proofs.ContentLaws.{self}
 use Rattle.backed_up_streams.proofs.LoadLaws.{text_loaded, commit_point, live_committed, IsTelling, LoadTold}
 
@@ -70,7 +68,7 @@ pub manifests_apart : (one other : ManifestId) → FitsManifest one → FitsMani
 unfolding manifest_of
 manifests_apart one other fits fits_too differ same = differ (ap manifest_of (same_object_text (ManifestObject one) (ManifestObject other) fits fits_too same))
 
-module _ (n : Numbers) (sound : AreSound n) (rules : Rules) (streams : Streams) (older : List Entry) (author session : ℕ) where
+module _ (n : Numbers) (sound : AreSound n) (rules : Rules) (streams : Streams) (older : List Entry) (author session : ℕ) (first : Objects) where
   -- what is asked of a history, so that it is known what the depot holds
   pub record IsAllowed (past : List Entry) : Type 0 where
     pub legal : is_legal rules past ≡ true
@@ -84,12 +82,14 @@ module _ (n : Numbers) (sound : AreSound n) (rules : Rules) (streams : Streams) 
     contents = record { contents = is.contents.contents.0; complete = is.contents.complete.0 };
   }
 
-  -- the history stores what the streams say, and the depot is whole, with just the records of the session's commits
+  -- The history stores what the streams say, and the depot is whole, with just the records of the session's commits.
+  -- What is no object is as it was at first.
   pub record Facts (past : List Entry) (plans : List Planned) (now : Objects) : Type 0 where
     pub planned : plans ≡ plans_of n streams past
     pub of_streams : IsOfStreams n streams past
     pub whole : IsWhole n streams past now
     pub hold : HoldCommits n streams session past now
+    pub others : (name : List ℕ) → IsNoObject name → bytes_of now name ≡ bytes_of first name
 
   pub record WholeSo (texts : List (List ℕ)) (newer : List Entry) (plans : List Planned) (shelf : ShelfView) : Type 0 where
     pub no_texts : texts ≡ []
@@ -148,6 +148,7 @@ module _ (n : Numbers) (sound : AreSound n) (rules : Rules) (streams : Streams) 
           };
           whole = behind (entry ∷ []) past now allowed.legal (All-cons (λ (e : Entry). CommitsNothing e.point) entry [] tt (All-nil (λ (e : Entry). CommitsNothing e.point))) facts.whole;
           hold = facts.hold;
+          others = facts.others;
         }
 
     choose_whole : (texts : List (List ℕ)) (newer : List Entry) (plans : List Planned) (shelf : ShelfView) (chosen : List Name) (ids : List ManifestId) → WholeSo texts newer plans shelf → WholeSo texts (made author (Choose session chosen ids) ∷ newer) plans shelf
@@ -244,9 +245,9 @@ module _ (n : Numbers) (sound : AreSound n) (rules : Rules) (streams : Streams) 
               let committed = live_committed id past live in
               manifests_apart id next (committed_fits id past is_before.entries committed) next_fits
               (λ same. let below = committed_below rules id past is_before.legal committed in
-                  let own = ap (λ (i : ManifestId). commits_of i.session past) same in
-                  let last = ap (λ (i : ManifestId). i.seq) same in
-                  absurd (omega (arith, below, own, last, counted)))
+              let own = ap (λ (i : ManifestId). commits_of i.session past) same in
+              let last = ap (λ (i : ManifestId). i.seq) same in
+              absurd (omega (arith, below, own, last, counted)))
 
           container_same : (id : ContainerId) → bytes_of later (object_text (Container id)) ≡ bytes_of told (object_text (Container id))
           container_same id = bytes_of-insert_other told (manifest_name next) text (object_text (Container id)) (λ same. manifest_apart next id (sym same))
@@ -255,8 +256,7 @@ module _ (n : Numbers) (sound : AreSound n) (rules : Rules) (streams : Streams) 
           unfolding containers_of
           container_kept id needed below = elim (eqb_tells id.session session) [
             | inl (tested, own) ↦
-                let grown = put.grown id.ordinal (subst (λ (s : ℕ). id.ordinal < containers_of n streams s past) own below) in
-                (
+                let grown = put.grown id.ordinal (subst (λ (s : ℕ). id.ordinal < containers_of n streams s past) own below) in (
                   grown.0,
                   container_same id
                       ∙ subst (λ (s : ℕ). bytes_of told (container_name s id.ordinal) ≡ bytes_of now (container_name s id.ordinal) ++ grown.0) (sym own) grown.1,
@@ -305,6 +305,7 @@ module _ (n : Numbers) (sound : AreSound n) (rules : Rules) (streams : Streams) 
             of_streams = then_of;
             whole = commits next stored.content stored.text stored.chunks stored.bytes stored.fresh stored.fresh_bytes stored.uses.items past later allowed.legal allowed.entries then_of whole_before text_there records_then;
             hold = hold_later;
+            others = λ name no_object. bytes_of-insert_other told (manifest_name next) text name (no_object (ManifestObject next)) ∙ put.others.rest name no_object ∙ facts.others name no_object;
           }
 
       -- the same, whatever chunks, located manifests and plans are known to be these

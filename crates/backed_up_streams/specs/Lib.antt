@@ -4,3 +4,4 @@ pub use Rattle.stored_streams.specs.Reads
 pub use Rattle.stored_streams.specs.Collision
 pub mod OfInput
 pub mod Loaded
+pub mod WholeThen

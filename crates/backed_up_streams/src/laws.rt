@@ -18,8 +18,10 @@ ghost use Rattle.stored_streams.specs.OfStreams.{HasContents, IsOfStreams};
 ghost use Rattle.stored_streams.specs.Reads.{Reads, IsGiven};
 ghost use Rattle.stored_streams.specs.Reads.Reads.{recorded, held};
 ghost use Rattle.stored_streams.specs.Collision.{Collide};
+ghost use Rattle.stored_streams.specs.Whole.{IsWhole};
 ghost use Rattle.backed_up_streams.specs.OfInput.{IsOfInput};
 ghost use Rattle.backed_up_streams.specs.Loaded.{HasLoaded, ReadsMore};
+ghost use Rattle.backed_up_streams.specs.WholeThen.{IsWholeThen};
 
 /// A backup by a caller alone, whatever it answers, where its input's shelf tells its objects and the stream of the
 /// session that it began, if any, is the input's bytes: behind a history whose choices and commits are those of its
@@ -76,6 +78,21 @@ pub fn streams_of_a_backup()
         → IsOfStreams (numbers_of before.seen.profile) streams (past_of before.seen)
         → IsOfStreams (numbers_of before.seen.profile) streams (past_of after.seen)
         ⊎ Collide (numbers_of before.seen.profile) streams (past_of after.seen) (IsGiven (held stored ∷ []) (past_of after.seen)) }
+{}
+
+/// Over a depot that is whole for a history of the streams such a backup leaves one that is whole for the longer history,
+/// and that one is of the streams without exception. It changes no object but containers and manifests. It runs nothing.
+pub fn whole_of_a_backup()
+    ensures { (streams : Streams) (objects stored : Objects) (rules : Rules) (standings champions : ℕ) (files : ShelfView) (input name : List ℕ) (before : IdleView) (depot : ShelfView) (after : IdleView) (depot' : ShelfView) (result : Result ℕ BackupFault)
+        → BackupAnswer (λ came. came ≡ []) standings champions files input name before depot after depot' result
+        → files.held ≡ Some objects
+        → depot.held ≡ Some stored
+        → IsOfInput streams (past_of before.seen) (past_of after.seen) (bytes_of objects input)
+        → is_legal rules (past_of after.seen) ≡ true
+        → All IsEntry (past_of after.seen)
+        → IsOfStreams (numbers_of before.seen.profile) streams (past_of before.seen)
+        → IsWhole (numbers_of before.seen.profile) streams (past_of before.seen) stored
+        → IsWholeThen (numbers_of before.seen.profile) streams (past_of after.seen) stored depot' }
 {}
 
 /// A collision stays one while a legal history goes on, and beside the reads of more handles. It runs nothing.

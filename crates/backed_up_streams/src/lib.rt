@@ -4,7 +4,10 @@
 
 mod laws;
 
-pub use laws::{collisions_stay, contents_of_a_backup, loads_of_a_backup, streams_of_a_backup};
+pub use laws::{
+    collisions_stay, contents_of_a_backup, loads_of_a_backup, streams_of_a_backup,
+    whole_of_a_backup,
+};
 
 #[cfg(test)]
 mod tests;

@@ -7,6 +7,7 @@ fn each_law_is_called(_rt: HostRuntime) -> Result<(), Fail> {
     contents_of_a_backup();
     loads_of_a_backup();
     streams_of_a_backup();
+    whole_of_a_backup();
     collisions_stay();
     Ok(())
 }

@@ -11,7 +11,7 @@ use Rattle.journal_entry.specs.declared.entry.Entry.{Entry}
 use Rattle.journal_entry.specs.declared.entry.Point.{Point}
 use Rattle.journal_entry.specs.declared.entry.Point.TheVariants.{Commit}
 use Rattle.history.specs.declared.rules.Rules.{Rules}
-use Rattle.history.specs.Sessions.{has, newest, commits, commits_of}
+use Rattle.history.specs.Sessions.{has, commits, commits_of}
 use Rattle.history.specs.Need.{commits_manifest}
 use Rattle.history.specs.Legal.{is_allowed, is_legal}
 use Rattle.history_laws.specs.EntryNumbers.{numbers_of}

@@ -1,7 +1,7 @@
 -- From whole objects a restore reads the stream, or two different chunks have one SHA-256.
-use Rattle.std.proofs.Common.{◌≡◌, ◌⊎◌, ℕ, ◌*◌, true, List, [], ◌∷◌, length, take, slice_get, map, Some, refl, sym, ap, ◌∙◌, subst, inl, inr, arith}
+use Rattle.std.proofs.Common.{◌≡◌, ◌⊎◌, ℕ, ◌*◌, true, List, length, take, slice_get, map, Some, sym, ap, ◌∙◌, subst, inl, inr, arith}
 use Rattle.std.specs.List.{concat}
-use Rattle.std.proofs.lemmas.Bool.{false≢true, both_ways, cases_Bool, and_from, or_left, or_right}
+use Rattle.std.proofs.lemmas.Bool.{and_from, or_left, or_right}
 use Rattle.std.proofs.Math.Seq.{take-length}
 use Rattle.ss_base.specs.declared.ids.ManifestId.{ManifestId}
 use Rattle.ss_base.specs.declared.ids.Place.{Place}
@@ -9,22 +9,18 @@ use Rattle.ss_base.specs.declared.name.Piece.{Piece}
 use Rattle.ss_base.specs.declared.object.Object.TheVariants.{Manifest as ManifestObject}
 use Rattle.ss_base.specs.declared.profile.Numbers.{Numbers}
 use Rattle.ss_base.specs.ObjectName.{object_text}
-use Rattle.ss_base.proofs.IdLaws.{same_manifest-true}
 use Rattle.manifest_codec.specs.Text.{manifest_text}
 use Rattle.manifest_codec.proofs.TextLaws as text
 use Rattle.journal_entry.specs.declared.entry.Entry.{Entry}
-use Rattle.journal_entry.specs.declared.entry.Point.{Point}
-use Rattle.journal_entry.specs.declared.entry.Point.TheVariants.{Commit}
 use Rattle.history.specs.declared.rules.Rules.{Rules}
-use Rattle.history.specs.Sessions.{has, newest, is_unfinished, is_retained}
+use Rattle.history.specs.Sessions.{has, is_unfinished, is_retained}
 use Rattle.history.specs.Need.{commits_manifest, is_live, is_pinned}
-use Rattle.history_laws.proofs.SessionLaws.{has_none, has_cases, committed_begun}
-use Rattle.store_core.specs.View.{KeptView, kept, kept_by, stream_kept}
+use Rattle.history_laws.proofs.SessionLaws.{committed_begun}
+use Rattle.store_core.specs.View.{KeptView, stream_kept}
 use Rattle.outside.specs.Shelf.{Objects, bytes_of, part_of}
 use Rattle.outside.specs.Views.{ShelfView}
 use Rattle.stored_streams.specs.Streams.{Streams, manifest_chunks, manifest_pieces}
 use Rattle.stored_streams.specs.Plans.{planned_places, plans_of, text_of as planned_text}
-use Rattle.stored_streams.specs.OfStreams.{ContentOf, EachEntry}
 use Rattle.stored_streams.specs.Whole.{IsWhole}
 use Rattle.stored_streams.proofs.CommittedLaws.{committed_kept, committed_manifest, kept_counts}
 use Rattle.restore.specs.Reads.{Listed, ManifestRead, AreManifestsRead, bytes_of_chunks, bytes_of_manifests, text_of, text_at}

@@ -3,3 +3,4 @@ pub mod StatusLaws
 pub mod RestoreLaws
 pub mod PointLaws
 pub mod RunLaws
+pub mod WholeRunLaws

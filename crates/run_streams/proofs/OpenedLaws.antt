@@ -15,7 +15,7 @@ pub told_store : (depot depot' : ShelfView) (store : StateView) (objects : Objec
 told_store depot depot' store objects opens told =
     subst (λ held. IfSome held (λ (o : Objects). IsOpening (Ok store) (bytes_of o journal_name))) told opens.told
 
-entries_in : (entries : List Entry) → AllByRecursion IsEntry entries → (entry : Entry) → In entry entries → IsEntry entry
+pub entries_in : (entries : List Entry) → AllByRecursion IsEntry entries → (entry : Entry) → In entry entries → IsEntry entry
 entries_in [] all entry listed = absurd listed
 entries_in (one ∷ entries) all entry listed = elim listed [
   | inl is ↦ subst IsEntry is all.0

@@ -1,1 +1,2 @@
 pub mod RunStreams
+pub mod WholeStores

@@ -4,30 +4,37 @@ ghost use Rattle.std.specs.List.{All};
 ghost use Rattle.ss_base.specs.Profile.{numbers_of};
 ghost use Rattle.journal_entry.specs.Bounds.{IsEntry};
 ghost use Rattle.outside.specs.Shelf.{Objects};
-ghost use Rattle.outside.specs.Views.{SinkView};
-ghost use Rattle.store_core.specs.View.{past_of};
+ghost use Rattle.outside.specs.Views.{SinkView, ShelfView};
+ghost use Rattle.store_core.specs.View.{StateView, past_of};
 ghost use Rattle.restore.specs.Copies.{Shelves};
 ghost use Rattle.stored_streams.specs.Streams.{Streams};
 ghost use Rattle.stored_streams.specs.OfStreams.{IsOfStreams};
 ghost use Rattle.stored_streams.specs.Reads.{IsGiven};
 ghost use Rattle.stored_streams.specs.Reads.Reads.{held};
 ghost use Rattle.stored_streams.specs.Collision.{Collide};
-ghost use Rattle.restored_streams.specs.Restored.{HasRestored};
+ghost use Rattle.restored_streams.specs.Restored.{HasRestored, ChunksCollide};
 ghost use Rattle.job_script.specs.declared.job.JobKind.{JobKind};
 ghost use Rattle.job_script.specs.declared.job.JobKind.TheVariants.{Restore};
 ghost use Rattle.store_run.specs.JobRun.{HasDoneJob};
 ghost use Rattle.run_streams.specs.RunStreams.{HasInput};
+ghost use Rattle.run_streams.specs.WholeStores.{IsWholeStore, KeepsStore, KeepStore};
 
 /// A restore that ends with status 0, in a store whose history is that of some streams, leaves as its output exactly the
 /// stream of the session that the name stands for, and no other file changes; or two different byte lists among those that
-/// were hashed have one SHA-256. The depot is told, and its objects may be anything. It runs nothing.
+/// were hashed have one SHA-256. The depot is told, and its objects may be anything; where the store is whole, the only
+/// exception is that two different chunks have one SHA-256. It runs nothing.
 pub fn restored_by_a_run()
-    ensures { (streams : Streams) (objects : Objects) (name output : List ℕ) (before after : Shelves) (sink sink' : SinkView)
+    ensures read { (streams : Streams) (objects : Objects) (name output : List ℕ) (before after : Shelves) (sink sink' : SinkView)
         → (done : HasDoneJob (Restore name output) before after sink sink' 0)
         → before.depot.held ≡ Some objects
         → IsOfStreams (numbers_of done.store.profile) streams (past_of done.store)
         → ((count : ℕ) × HasRestored streams (past_of done.store) name output before.files after.files count)
         ⊎ Collide (numbers_of done.store.profile) streams (past_of done.store) (IsGiven (held objects ∷ []) (past_of done.store)) }
+    ensures whole { (streams : Streams) (store : StateView) (name output : List ℕ) (before after : Shelves) (sink sink' : SinkView)
+        → HasDoneJob (Restore name output) before after sink sink' 0
+        → IsWholeStore streams before.depot store
+        → ((count : ℕ) × HasRestored streams (past_of store) name output before.files after.files count)
+        ⊎ ChunksCollide (numbers_of store.profile) streams (past_of store) }
 {}
 
 /// A run of any job leaves the history of its store one of the streams, or two different byte lists among those that were
@@ -42,4 +49,20 @@ pub fn streams_of_a_run()
         → IsOfStreams (numbers_of done.store.profile) streams (past_of done.store)
         → IsOfStreams (numbers_of done.store.profile) streams (past_of done.new)
         ⊎ Collide (numbers_of done.store.profile) streams (past_of done.new) (IsGiven (held objects ∷ []) (past_of done.new)) }
+{}
+
+/// Runs whose entries were kept leave a store whole whose depot was whole: its journal is that of a legal history of the
+/// streams then, and its objects are whole for it. Each backup's stream is its input's bytes. It runs nothing.
+pub fn stores_stay_whole()
+    ensures one { (streams : Streams) (before after : Shelves) (store : StateView)
+        → KeepsStore streams before after
+        → IsWholeStore streams before.depot store
+        → (new : StateView) × IsWholeStore streams after.depot new }
+    ensures many { (streams : Streams) (before after : Shelves) (store : StateView)
+        → KeepStore streams before after
+        → IsWholeStore streams before.depot store
+        → (new : StateView) × IsWholeStore streams after.depot new }
+    // The depot tells which store it is.
+    ensures same { (streams : Streams) (depot : ShelfView) (one other : StateView)
+        → IsWholeStore streams depot one → IsWholeStore streams depot other → one ≡ other }
 {}

@@ -1,5 +1,5 @@
 -- Laws of the plans of a history.
-use Rattle.std.proofs.Common.{◌≡◌, ◌≤◌, true, false, List, [], ◌∷◌, length, Option, Some, None, refl, ◌∙◌, subst, inl, inr, arith}
+use Rattle.std.proofs.Common.{◌≡◌, ℕ, ◌==◌, ◌++◌, ◌≤◌, true, false, List, [], ◌∷◌, length, Option, Some, None, refl, ◌∙◌, subst, inl, inr, arith}
 use mathlib.Core.List.{map}
 use Rattle.std.proofs.lemmas.List.{length-map}
 use Rattle.ss_base.specs.declared.ids.ManifestId.{ManifestId}
@@ -16,7 +16,7 @@ use Rattle.journal_entry.specs.declared.entry.Point.TheVariants.{Commit}
 use Rattle.history.specs.Sessions.{pending_champions}
 use Rattle.history.specs.Need.{commits_manifest}
 use Rattle.stored_streams.specs.Streams.{Streams, manifest_chunks, manifest_pieces}
-use Rattle.stored_streams.specs.Plans.{Planned, plan_of, planned_places, located_of, plan_for, next_plan, plans_after, plans_of, end_of}
+use Rattle.stored_streams.specs.Plans.{Planned, plan_of, last_plan, planned_places, located_of, plan_for, next_plan, plans_after, plans_of, end_of, laid_of}
 use Rattle.segment_plan.proofs.LieLaws.{places-count}
 use Rattle.stored_streams.proofs.PlaceLaws.{Each, IsWithin, places_within}
 
@@ -76,3 +76,21 @@ pub places_stay : (n : Numbers) (streams : Streams) (past : List Entry) (id : Ma
 unfolding planned_places plan_of plans_after commits_manifest next_plan plan_for
 places_stay n streams past id (Commit other content text chunks bytes fresh fresh_bytes uses) plans differs = rw differs refl
 places_stay n streams past id _ plans differs = refl
+
+-- ---- the plans of a session
+
+pub laid_own : (p : Planned) (session : ℕ) (plans : List Planned) → (p.id.session == session) ≡ true → laid_of session (p ∷ plans) ≡ laid_of session plans ++ p.laid
+unfolding laid_of
+laid_own p session plans own = rw own refl
+
+pub laid_other : (p : Planned) (session : ℕ) (plans : List Planned) → (p.id.session == session) ≡ false → laid_of session (p ∷ plans) ≡ laid_of session plans
+unfolding laid_of
+laid_other p session plans other = rw other refl
+
+pub end_own : (p : Planned) (session : ℕ) (plans : List Planned) → (p.id.session == session) ≡ true → end_of session (p ∷ plans) ≡ p.end
+unfolding end_of last_plan
+end_own p session plans own = rw own refl
+
+pub end_other : (p : Planned) (session : ℕ) (plans : List Planned) → (p.id.session == session) ≡ false → end_of session (p ∷ plans) ≡ end_of session plans
+unfolding end_of last_plan
+end_other p session plans other = rw other refl

@@ -25,8 +25,8 @@ use Rattle.history_laws.proofs.NeedLaws.{never_live}
 use Rattle.stored_streams.specs.Streams.{Streams, manifest_pieces}
 use Rattle.stored_streams.specs.Plans.{Planned, last_plan, planned_places, end_of, laid_of, plan_for, next_plan, plans_after, plans_of, text_of, containers_of}
 use Rattle.stored_streams.specs.Whole.{IsManifestWhole, HasRecords, IsWhole}
+use Rattle.stored_streams.proofs.PlanLaws.{end_other}
 use Rattle.whole_objects.specs.Keeps.{CommitsNothing}
-use Rattle.whole_objects.proofs.WantedLaws.{end_older}
 
 -- ---- what such an entry leaves as it was
 
@@ -66,7 +66,7 @@ begun_after n streams rules past author (Commit id content text chunks bytes fre
       | inl own ↦
           let said = commit_says rules past author id content text chunks bytes fresh fresh_bytes uses allowed in
           subst (λ s. has (begins s) past ≡ true) (eqb-true _ _ own) (unfinished_is id.session past said.unfinished).0
-      | inr other ↦ older (subst (λ (e : ContainerEnd). 0 < e.containers) (end_older (next_plan n streams past id plans) session plans other) some)
+      | inr other ↦ older (subst (λ (e : ContainerEnd). 0 < e.containers) (end_other (next_plan n streams past id plans) session plans other) some)
     ]
 begun_after n streams rules past author _ session plans allowed older some = older some
 

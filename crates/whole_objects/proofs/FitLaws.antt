@@ -1,5 +1,5 @@
 -- The numbers of a history's objects fit their places in an entry.
-use Rattle.std.proofs.Common.{◌≡◌, ℕ, zero, suc, ◌==◌, ◌+◌, ◌<◌, ◌≤◌, ◌^◌, Bool, true, false, List, [], ◌∷◌, ◌++◌, Option, Some, None, refl, sym, ap, ◌∙◌, subst, inl, inr, arith}
+use Rattle.std.proofs.Common.{◌≡◌, ℕ, zero, suc, ◌==◌, ◌+◌, ◌<◌, ◌≤◌, ◌^◌, Bool, true, List, [], ◌∷◌, ◌++◌, Some, None, refl, sym, ap, ◌∙◌, subst, inl, inr, arith}
 use mathlib.Core.List.{map}
 use Rattle.std.specs.List.{All, AllByRecursion, Contains}
 use Rattle.std.proofs.lemmas.Bool.{false≢true, cases_Bool, and_parts, or_cases, eqb-true}
@@ -13,7 +13,7 @@ use Rattle.ss_base.specs.Ids.{same_container, has_container}
 use Rattle.ss_base.specs.Origins.{fresh_behind, fresh_marks}
 use Rattle.ss_base.proofs.IdLaws.{same_manifest-true, same_container-true}
 use Rattle.ss_base.proofs.MemberLaws.{In, any_in, in_Contains, count_one, count_other}
-use Rattle.chunk_name.specs.Pieces.{piece, pieces}
+use Rattle.chunk_name.specs.Pieces.{piece}
 use Rattle.manifest_codec.specs.Containers.{AreContainers}
 use Rattle.container_file.specs.declared.container_end.ContainerEnd.{ContainerEnd}
 use Rattle.container_file.specs.Chunk.{Chunk, marked}
@@ -21,7 +21,7 @@ use Rattle.container_file.specs.Layout.{Laid, after, place_for, laid, end_after}
 use Rattle.container_file.proofs.LayoutLaws.{ordinal_last}
 use Rattle.lack_plan.specs.declared.origin.Origin.TheVariants.{Champion, Earlier}
 use Rattle.lack_plan.specs.Plan.{origins}
-use Rattle.segment_plan.specs.Plan.{Located, pieces_of, fresh_of, laid_against, places_against, end_against}
+use Rattle.segment_plan.specs.Plan.{Located, pieces_of, fresh_of, places_against, end_against}
 use Rattle.segment_plan.proofs.StepLaws.{step, fresh_left, left, left-new, laid-new, laid-old, old_place, left-old}
 use Rattle.journal_entry.specs.declared.entry.Entry.{Entry}
 use Rattle.journal_entry.specs.declared.entry.Point.{Point}
@@ -36,7 +36,7 @@ use Rattle.history_laws.proofs.SessionLaws.{has_cases, has_none}
 use Rattle.stored_streams.specs.Streams.{Streams, manifest_chunks}
 use Rattle.stored_streams.specs.Plans.{Planned, located_of, last_plan, end_of, plan_for, next_plan, plans_after, plans_of}
 use Rattle.stored_streams.specs.OfStreams.{StoredOf, EachEntry}
-use Rattle.whole_objects.proofs.RecordLaws.{end_own, end_other}
+use Rattle.stored_streams.proofs.PlanLaws.{end_own, end_other}
 
 -- ---- what an entry says
 

@@ -5,3 +5,5 @@ pub mod WantedLaws
 pub mod KeepLaws
 pub mod EntryLaws
 pub mod ReclaimLaws
+pub mod LaidLaws
+pub mod CommitLaws

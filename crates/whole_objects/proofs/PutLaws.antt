@@ -1,7 +1,6 @@
 -- What puts leave among objects.
-use Rattle.std.proofs.Common.{◌≡◌, ◌≢◌, ℕ, zero, suc, ◌+◌, ◌<◌, ◌≤◌, ◌^◌, Bool, true, false, List, [], ◌∷◌, ◌++◌, length, drop, get_or, Option, Some, refl, sym, ap, ◌∙◌, subst, inl, inr, arith, append_assoc, append-nil, if◌then◌else◌}
+use Rattle.std.proofs.Common.{◌≡◌, ◌≢◌, ℕ, zero, suc, ◌+◌, ◌<◌, ◌≤◌, ◌^◌, true, false, List, [], ◌∷◌, ◌++◌, get_or, Option, Some, refl, sym, ap, ◌∙◌, subst, inl, inr, arith, append_assoc, append-nil, if◌then◌else◌}
 use mathlib.Core.List.{map}
-use Rattle.std.specs.Option.{option_map}
 use Rattle.std.specs.List.{range_with_len}
 use Rattle.std.specs.FinMap as map
 use Rattle.std.proofs.lemmas.Bool.{cases_Bool, false≢true}
@@ -54,7 +53,7 @@ pub record Grow (session count : ℕ) (objects now : Objects) : Type 0 where
 
 pub grow-none : (session count : ℕ) (objects : Objects) → Grow session count objects objects
 grow-none session count objects = record {
-  others = record { containers = λ id low differ. refl; manifests = λ id. refl };
+  others = record { containers = λ id low differ. refl; manifests = λ id. refl; rest = λ name none. refl };
   grown = λ ordinal below. goes_on (bytes_of objects (container_name session ordinal));
 }
 
@@ -63,6 +62,7 @@ grow-then session count one two three first second = record {
   others = record {
     containers = λ id low differ. second.others.containers id low differ ∙ first.others.containers id low differ;
     manifests = λ id. second.others.manifests id ∙ first.others.manifests id;
+    rest = λ name none. second.others.rest name none ∙ first.others.rest name none;
   };
   grown = λ ordinal below. goes_on-then _ _ _ (first.grown ordinal below) (second.grown ordinal below);
 }
@@ -77,6 +77,7 @@ module _ (session count ordinal : ℕ) (fits : FitsContainer (record { session =
         let session_low = fits.0 in
         differ (session_named (Container id) (Container own) (omega (arith, low)) (omega (arith, session_low)) same));
     manifests = λ id. others_same (object_text (Manifest id)) (manifest_apart id own);
+    rest = λ name none. others_same name (none (Container own));
   }
 
   -- the changed one is below the number, and goes on; or it is not

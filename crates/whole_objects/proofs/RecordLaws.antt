@@ -1,8 +1,8 @@
 -- What containers hold behind puts.
-use Rattle.std.proofs.Common.{◌≡◌, ◌≢◌, ℕ, zero, suc, ◌==◌, ◌+◌, ◌-◌, ◌<◌, ◌≤◌, ◌^◌, ◌⊎◌, Bool, true, false, nat_eq, nat_le, List, [], ◌∷◌, ◌++◌, Option, Some, refl, sym, ap, ◌∙◌, subst, inl, inr, arith, append-nil}
+use Rattle.std.proofs.Common.{◌≡◌, ◌≢◌, ℕ, zero, suc, ◌==◌, ◌+◌, ◌-◌, ◌<◌, ◌≤◌, ◌^◌, false, nat_eq, nat_le, List, [], ◌∷◌, ◌++◌, Option, Some, refl, sym, ap, ◌∙◌, subst, inl, inr, arith, append-nil}
 use mathlib.Core.List.{map}
-use Rattle.std.specs.Option.{option_map, unwrap_or}
-use Rattle.std.specs.List.{find, filter, range_with_len}
+use Rattle.std.specs.Option.{unwrap_or}
+use Rattle.std.specs.List.{range_with_len}
 use Rattle.std.proofs.lemmas.Bool.{cases_Bool, eqb-true, le-leb, leb-true}
 use Rattle.std.proofs.lemmas.Bool.Decides.{nat_tests, leb_tells}
 use Rattle.std.proofs.lemmas.List.{map-append}
@@ -25,30 +25,14 @@ use Rattle.outside.specs.declared.trouble.Trouble.{Trouble}
 use Rattle.journal_entry.specs.declared.entry.Entry.{Entry}
 use Rattle.journal_entry.specs.declared.entry.Point.{Point}
 use Rattle.journal_entry.specs.declared.entry.Point.TheVariants.{Commit}
-use Rattle.journal_entry.specs.Bounds.{FitsContainer}
 use Rattle.depot.specs.Storing.{put_name, after_puts, IsStopped}
-use Rattle.stored_streams.specs.Streams.{Streams, manifest_chunks}
+use Rattle.stored_streams.specs.Streams.{Streams}
 use Rattle.stored_streams.specs.Plans.{Planned, last_plan, end_of, laid_of, plan_for, next_plan, plans_after, plans_of}
+use Rattle.stored_streams.proofs.PlanLaws.{laid_own, laid_other, end_own, end_other}
 use Rattle.whole_objects.specs.Records.{laid_text, HoldRecords, HoldCommits, ArePut}
 use Rattle.whole_objects.proofs.PutLaws.{container_name, names_apart, Grow, IsPutFor, HasGrown, ArePutTo, bytes_then, then-started, then-added, are_put_to, puts_grown, stopped_grown, grow-none}
 
--- ---- the plans of a session
-
-pub laid_own : (p : Planned) (session : ℕ) (plans : List Planned) → (p.id.session == session) ≡ true → laid_of session (p ∷ plans) ≡ laid_of session plans ++ p.laid
-unfolding laid_of
-laid_own p session plans own = rw own refl
-
-pub laid_other : (p : Planned) (session : ℕ) (plans : List Planned) → (p.id.session == session) ≡ false → laid_of session (p ∷ plans) ≡ laid_of session plans
-unfolding laid_of
-laid_other p session plans other = rw other refl
-
-pub end_own : (p : Planned) (session : ℕ) (plans : List Planned) → (p.id.session == session) ≡ true → end_of session (p ∷ plans) ≡ p.end
-unfolding end_of last_plan
-end_own p session plans own = rw own refl
-
-pub end_other : (p : Planned) (session : ℕ) (plans : List Planned) → (p.id.session == session) ≡ false → end_of session (p ∷ plans) ≡ end_of session plans
-unfolding end_of last_plan
-end_other p session plans other = rw other refl
+-- ---- what is laid out for a session
 
 both_laid : (o : ℕ) (one other : List Laid) → laid_in o (one ++ other) ≡ laid_in o one ++ laid_in o other
 both_laid o one other = filter-append (λ (l : Laid). nat_eq l.place.container.ordinal o) one other
@@ -200,7 +184,7 @@ module _ (end : ContainerEnd) (room : ℕ) where
           | inr (tested, low) ↦
               let few = near.0 in
               to.others (container_name end.session o) (λ other above high.
-                  names_apart (own o) (own other) (small, omega (arith, below, most)) (small, omega (arith, high, below, most, low, above)) (λ same. let e = ap (λ (i : ContainerId). i.ordinal) same in absurd (omega (arith, e, low, above))))
+              names_apart (own o) (own other) (small, omega (arith, below, most)) (small, omega (arith, high, below, most, low, above)) (λ same. let e = ap (λ (i : ContainerId). i.ordinal) same in absurd (omega (arith, e, low, above))))
               ∙ hold o (omega (arith, low, few))
               ∙ sym (untouched (c ∷ cs) o (before_first c cs o low))
         ]
@@ -254,12 +238,15 @@ module _ (n : Numbers) (streams : Streams) (session : ℕ) (past : List Entry) (
   put-laid most told hold =
       let own_hold = subst (λ (s : ℕ). HoldRecords s end.containers old objects) (sym is_end.session_is) hold in
       let (now, held_is, records, grow) = records_put end n.room old objects own_end own_small own_hold cs shelf most told in
-      let grown = subst (λ (s : ℕ). Grow s end.containers objects now) is_end.session_is grow in
-      (now, held_is, record {
-        records = subst (λ (s : ℕ). HoldRecords s (end_after end n.room cs).containers (old ++ laid end n.room cs) now) is_end.session_is records;
-        others = grown.others;
-        grown = grown.grown;
-      })
+      let grown = subst (λ (s : ℕ). Grow s end.containers objects now) is_end.session_is grow in (
+        now,
+        held_is,
+        record {
+          records = subst (λ (s : ℕ). HoldRecords s (end_after end n.room cs).containers (old ++ laid end n.room cs) now) is_end.session_is records;
+          others = grown.others;
+          grown = grown.grown;
+        },
+      )
 
   pub put-stopped : (after : ShelfView) (trouble : Trouble) → (end_against chunks located end n.room).containers ≤ 2 ^ 32 → shelf.held ≡ Some objects → IsStopped shelf after (puts_against chunks located end n.room) trouble
       → HasGrown session end.containers objects after.held

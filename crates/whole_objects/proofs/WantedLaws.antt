@@ -39,7 +39,7 @@ use Rattle.stored_streams.specs.Streams.{Streams, manifest_chunks, manifest_piec
 use Rattle.stored_streams.specs.Plans.{Planned, plan_of, last_plan, planned_places, end_of, located_of, plan_for, next_plan, plans_after, plans_of}
 use Rattle.stored_streams.specs.OfStreams.{ContentOf, StoredOf, EachEntry}
 use Rattle.stored_streams.proofs.PlaceLaws.{Each}
-use Rattle.stored_streams.proofs.PlanLaws.{places_newest, places_stay}
+use Rattle.stored_streams.proofs.PlanLaws.{places_newest, places_stay, end_own, end_other}
 use Rattle.stored_streams.proofs.CommittedLaws.{committed_kept}
 
 -- ---- the containers of a session
@@ -47,14 +47,6 @@ use Rattle.stored_streams.proofs.CommittedLaws.{committed_kept}
 -- the container is one of its session's
 abbrev pub IsLaidOut : List Planned → ContainerId → Type 0
 IsLaidOut plans id = id.ordinal < (end_of id.session plans).containers
-
-end_newest : (p : Planned) (session : ℕ) (plans : List Planned) → eqb p.id.session session ≡ true → end_of session (p ∷ plans) ≡ p.end
-unfolding end_of last_plan
-end_newest p session plans is = rw is refl
-
-pub end_older : (p : Planned) (session : ℕ) (plans : List Planned) → eqb p.id.session session ≡ false → end_of session (p ∷ plans) ≡ end_of session plans
-unfolding end_of last_plan
-end_older p session plans other = rw other refl
 
 -- and stays one behind a segment more
 still_laid : (n : Numbers) (streams : Streams) (id : ManifestId) (located : List Located) (plans : List Planned) (container : ContainerId) → IsLaidOut plans container → IsLaidOut (plan_for n streams id located plans ∷ plans) container
@@ -66,8 +58,8 @@ still_laid n streams id located plans container below =
           let more = (end_bounds (end_of id.session plans) n.room (fresh_of (manifest_chunks n streams id) (pieces_of located))).0 in
           let before : container.ordinal < (end_of id.session plans).containers = subst (λ s. container.ordinal < (end_of s plans).containers) (sym (eqb-true _ _ own)) below in
           let now : container.ordinal < p.end.containers = omega (arith, before, more) in
-          subst (λ (e : ContainerEnd). container.ordinal < e.containers) (sym (end_newest p container.session plans own)) now
-      | inr other ↦ subst (λ (e : ContainerEnd). container.ordinal < e.containers) (sym (end_older p container.session plans other)) below
+          subst (λ (e : ContainerEnd). container.ordinal < e.containers) (sym (end_own p container.session plans own)) now
+      | inr other ↦ subst (λ (e : ContainerEnd). container.ordinal < e.containers) (sym (end_other p container.session plans other)) below
     ]
 
 -- ---- places in containers that are laid out
@@ -81,10 +73,10 @@ record IsLaid (plans : List Planned) (p : Planned) : Type 0 where
   pub places : AreLaidOut plans p.places
 
 -- the containers of a session are its own
-end_own : (session : ℕ) (all plans : List Planned) → Each (IsLaid all) plans → (found : Option Planned) → last_plan session plans ≡ found → (end_of session plans).session ≡ session
+own_containers : (session : ℕ) (all plans : List Planned) → Each (IsLaid all) plans → (found : Option Planned) → last_plan session plans ≡ found → (end_of session plans).session ≡ session
 unfolding end_of last_plan
-end_own session all plans each None is = rw is refl
-end_own session all plans each (Some p) is =
+own_containers session all plans each None is = rw is refl
+own_containers session all plans each (Some p) is =
     let found = find_in (λ (p : Planned). eqb p.id.session session) plans p is in
     rw is ((each p found.0).session ∙ eqb-true _ _ found.1)
 
@@ -119,7 +111,7 @@ plan_laid n streams id located plans have old session =
       places = λ q h. elim (may-use located end n.room cs (pieces chunks) places (places-count chunks located end n.room) lie q.container (container_listed q places h)) [
         | inl mine ↦
             subst (λ (e : ContainerEnd). q.container.ordinal < e.containers)
-            (sym (end_newest p q.container.session plans (eq-eqb id.session q.container.session (sym (mine.session ∙ own))))) mine.started
+            (sym (end_own p q.container.session plans (eq-eqb id.session q.container.session (sym (mine.session ∙ own))))) mine.started
         | inr lent ↦
             let m = lent.manifest in
             let from = map_in (λ (p : Place). p.container) q.container m.places (in_Contains q.container (map (λ (p : Place). p.container) m.places) lent.container) in
@@ -141,7 +133,7 @@ next_laid n streams past id plans counts each =
     plan_laid n streams id located plans
     (All-from_in HasPlaces located (λ l h. let from = map_in one l ids h in subst HasPlaces from.2 (counts from.0 from.1)))
     (λ l h. let from = map_in one l ids h in subst (λ (l : Located). AreLaidOut plans l.places) from.2 (places_laid from.0 plans plans each (plan_of from.0 plans) refl))
-    (end_own id.session plans plans each (last_plan id.session plans) refl)
+    (own_containers id.session plans plans each (last_plan id.session plans) refl)
 
 plan_kept : (n : Numbers) (streams : Streams) (past : List Entry) (id : ManifestId) (plans : List Planned) (p : Planned) → IsLaid plans p → IsLaid (next_plan n streams past id plans ∷ plans) p
 unfolding next_plan

@@ -2,6 +2,7 @@
 use Rattle.std.specs.Prelude.{ℕ, ◌≡◌, ◌<◌, ◌^◌, ◌≢◌, true, List, ◌++◌}
 use Rattle.ss_base.specs.declared.ids.ContainerId.{ContainerId}
 use Rattle.ss_base.specs.declared.ids.ManifestId.{ManifestId}
+use Rattle.ss_base.specs.declared.object.Object.{Object}
 use Rattle.ss_base.specs.declared.object.Object.TheVariants.{Container, Manifest}
 use Rattle.ss_base.specs.declared.profile.Numbers.{Numbers}
 use Rattle.ss_base.specs.ObjectName.{object_text}
@@ -24,11 +25,16 @@ pub record KeepsWanted (n : Numbers) (streams : Streams) (past : List Entry) (ob
       → GoesOn (bytes_of objects (object_text (Container id))) (bytes_of now (object_text (Container id)))
   pub manifests : (id : ManifestId) → is_live id past ≡ true → bytes_of now (object_text (Manifest id)) ≡ bytes_of objects (object_text (Manifest id))
 
+-- the name is that of no container and no manifest
+abbrev pub IsNoObject : List ℕ → Type 0
+IsNoObject name = (object : Object) → name ≢ object_text object
+
 -- All but the containers of one session are as they were.
 pub record KeepsOthers (session : ℕ) (objects now : Objects) : Type 0 where
   pub containers : (id : ContainerId) → id.session < 2 ^ 32 → id.session ≢ session
       → bytes_of now (object_text (Container id)) ≡ bytes_of objects (object_text (Container id))
   pub manifests : (id : ManifestId) → bytes_of now (object_text (Manifest id)) ≡ bytes_of objects (object_text (Manifest id))
+  pub rest : (name : List ℕ) → IsNoObject name → bytes_of now name ≡ bytes_of objects name
 
 -- an entry that commits no segment
 abbrev pub CommitsNothing : Point → Type 0

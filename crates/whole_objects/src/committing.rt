@@ -31,6 +31,6 @@ pub fn whole_behind_a_commit()
         → IsWhole (numbers_of profile) streams past objects
         → bytes_of objects (object_text (Manifest id)) ≡ text_of (numbers_of profile) streams id (entry ∷ past)
         → ((ordinal : ℕ) → ordinal < containers_of (numbers_of profile) streams id.session (entry ∷ past)
-            → HasRecords (numbers_of profile) streams (entry ∷ past) objects (record { session = id.session; ordinal = ordinal }))
+        → HasRecords (numbers_of profile) streams (entry ∷ past) objects (record { session = id.session; ordinal = ordinal }))
         → IsWhole (numbers_of profile) streams (entry ∷ past) objects }
 {}

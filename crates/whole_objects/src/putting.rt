@@ -36,5 +36,5 @@ pub fn puts_are_laid_out()
         → IsStopped shelf after (puts_against chunks located end n.room) trouble
         → (now : Objects) × (after.held ≡ Some now) × KeepsOthers session objects now
         × ((ordinal : ℕ) → ordinal < end.containers
-            → let name = object_text (Container (record { session = session; ordinal = ordinal })) in GoesOn (bytes_of objects name) (bytes_of now name)) }
+        → let name = object_text (Container (record { session = session; ordinal = ordinal })) in GoesOn (bytes_of objects name) (bytes_of now name)) }
 {}

@@ -1,0 +1,11 @@
+use Rattle.run_streams.proofs.WholeRunLaws.{run_keeps_store, runs_keep_store, same_store}
+use Rattle.run_streams.proofs.laws.stores_stay_whole.Goals as goal
+
+pub returns-clause-one : goal.returns-clause-one
+returns-clause-one c = λ streams before after store run is. run_keeps_store streams before after store run is
+
+pub returns-clause-many : goal.returns-clause-many
+returns-clause-many c = λ streams before after store runs is. runs_keep_store streams before after store runs is
+
+pub returns-clause-same : goal.returns-clause-same
+returns-clause-same c = λ streams depot one other is is_too. same_store streams depot one other is is_too
