@@ -4,32 +4,40 @@ use Rattle.std.proofs.lemmas.List.{append-nil}
 use Rattle.std.specs.Io.KnownBytes.{Consumes, Keeps}
 use Rattle.std.proofs.KnownBytes.{Consumes-nil, Consumes-trans, Consumes-kept}
 use Rattle.outside.specs.Views.{SourceView, SinkView, Gives, Takes, TakesFront}
-use Rattle.store_run.specs.Advances.{Advances}
+use Rattle.store_run.specs.Advances.{AdvancesByLines}
+use Rattle.store_run.specs.Lines.{IsLines}
 use Rattle.store_run.specs.declared.stop.Stop.TheVariants.{TooLong, Memory, SourceFault}
 use Rattle.store_run.specs.Feed.{IsUnderWay, IsCutShort, IsHalted}
-use Rattle.store_run.proofs.AdvancesLaws.{advances-none, advances-then, advances-of, advances-cut, advances-end}
+use Rattle.store_run.proofs.AdvancesLaws.{advances-cut, advances-end, by_lines-none, by_lines-of, by_lines-then, IsLines-append}
 
 -- nothing was read yet
 pub under_way-start : (source : SourceView) (sink : SinkView) (text : List ℕ → List ℕ) → (way : IsUnderWay source source sink sink text text) × (way.bytes ≡ [])
 under_way-start source sink text =
-    (record { bytes = []; taken = Consumes-nil source.left; way = advances-none sink.written text text (λ more. refl) }, refl)
+    let by = by_lines-none sink.written text text (λ more. refl) in
+    (record { bytes = []; taken = Consumes-nil source.left; way = by.way; whole = by.whole }, refl)
+
+-- how what is still to be written went on
+by_lines : (source source' : SourceView) (sink sink' : SinkView) (text now : List ℕ → List ℕ) (way : IsUnderWay source source' sink sink' text now) → AdvancesByLines sink.written sink'.written (λ more. text (way.bytes ++ more)) now
+by_lines source source' sink sink' text now way = record { way = way.way; whole = way.whole }
 
 module _ (source source' source'' : SourceView) (sink sink' : SinkView) (text now : List ℕ → List ℕ) (piece : List ℕ) (way : IsUnderWay source source' sink sink' text now) (taken : Gives source' source'' piece) where
   -- more bytes were read, and what is still to be written is so in terms of those that follow
   pub under_way-read : (after : List ℕ → List ℕ) → ((more : List ℕ) → after more ≡ now (piece ++ more)) → (next : IsUnderWay source source'' sink sink' text after) × (next.bytes ≡ way.bytes ++ piece)
-  under_way-read after same = (
-    record {
-      bytes = way.bytes ++ piece;
-      taken = Consumes-trans source.left source'.left source''.left way.bytes piece way.taken taken;
-      way = advances-of sink.written sink'.written (λ more. text (way.bytes ++ more)) now (λ (more : List ℕ). piece ++ more) _ after
-          (λ more. ap text (append_assoc way.bytes piece more)) same way.way;
-    },
-    refl,
-  )
+  under_way-read after same =
+      let by = by_lines-of sink.written sink'.written (λ more. text (way.bytes ++ more)) now (λ (more : List ℕ). piece ++ more) (λ more. text (way.bytes ++ piece ++ more)) after
+      (λ more. ap text (append_assoc way.bytes piece more)) same (by_lines source source' sink sink' text now way) in (
+        record {
+          bytes = way.bytes ++ piece;
+          taken = Consumes-trans source.left source'.left source''.left way.bytes piece way.taken taken;
+          way = by.way;
+          whole = by.whole;
+        },
+        refl,
+      )
 
   -- memory was wanted while this piece was looked at
-  pub halted-memory : (limit : ℕ) (waiting later : List ℕ) → now piece ≡ waiting ++ later → IsHalted Memory limit source source'' sink sink' text waiting
-  halted-memory limit waiting later split = record {
+  pub halted-memory : (limit : ℕ) (waiting later : List ℕ) → now piece ≡ waiting ++ later → IsLines waiting → IsHalted Memory limit source source'' sink sink' text waiting
+  halted-memory limit waiting later split lines = record {
     done = way.way.done;
     written_so_far = way.way.written;
     ends = record {
@@ -37,6 +45,7 @@ module _ (source source' source'' : SourceView) (sink sink' : SinkView) (text no
       rest = later;
       taken = Consumes-trans source.left source'.left source''.left way.bytes piece way.taken taken;
       front = way.way.rest piece ∙ ap (λ (l : List ℕ). way.way.done ++ l) split ∙ sym (append_assoc way.way.done waiting later);
+      whole = IsLines-append way.way.done waiting way.whole lines;
     };
   }
 
@@ -74,10 +83,11 @@ halted-fault source source' source'' sink sink' text now way keeps limit waiting
 
 -- lines were printed
 pub under_way-printed : (source source' : SourceView) (sink sink' sink'' : SinkView) (text now after : List ℕ → List ℕ)
-    → (way : IsUnderWay source source' sink sink' text now) → Advances sink'.written sink''.written now after
+    → (way : IsUnderWay source source' sink sink' text now) → AdvancesByLines sink'.written sink''.written now after
     → (next : IsUnderWay source source' sink sink'' text after) × (next.bytes ≡ way.bytes)
 under_way-printed source source' sink sink' sink'' text now after way step =
-    (record { bytes = way.bytes; taken = way.taken; way = advances-then sink.written sink'.written sink''.written _ now after way.way step }, refl)
+    let by = by_lines-then sink.written sink'.written sink''.written (λ more. text (way.bytes ++ more)) now after (by_lines source source' sink sink' text now way) step in
+    (record { bytes = way.bytes; taken = way.taken; way = by.way; whole = by.whole }, refl)
 
 -- a front of the lines was printed
 pub under_way-cut : (source source' : SourceView) (sink sink' sink'' : SinkView) (text now : List ℕ → List ℕ) → IsUnderWay source source' sink sink' text now → TakesFront sink' sink'' (now []) → IsCutShort source source' sink sink'' text

@@ -3,6 +3,7 @@ mod AnswerLaws
 mod CommandLaws
 mod EntryLineLaws
 mod FeedLaws
+mod LineLaws
 mod ListingLaws
 mod ResultLaws
 mod SoFarLaws

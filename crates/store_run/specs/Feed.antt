@@ -2,6 +2,7 @@
 use Rattle.std.specs.Prelude.{◌≡◌, ℕ, ◌^◌, ◌<◌, ◌≤◌, List, ◌++◌, length}
 use Rattle.outside.specs.Views.{SourceView, SinkView, Gives, IsEnded, Takes, TakesFront}
 use Rattle.store_run.specs.Advances.{Advances}
+use Rattle.store_run.specs.Lines.{IsLines}
 use Rattle.store_run.specs.declared.stop.Stop.{Stop}
 use Rattle.store_run.specs.declared.stop.Stop.TheVariants.{TooLong, Memory, SourceFault}
 
@@ -21,11 +22,12 @@ pub record IsPrinted (limit : ℕ) (source source' : SourceView) (sink sink' : S
   pub gave : GaveAll limit source source' bytes
   pub whole : Takes sink sink' (text bytes)
 
--- the source gave some bytes, and what is still to be written went on to what is left of it
+-- the source gave some bytes, and what is still to be written went on, by whole lines, to what is left of it
 pub record IsUnderWay (source source' : SourceView) (sink sink' : SinkView) (text left_text : List ℕ → List ℕ) : Type 0 where
   pub bytes : List ℕ
   pub taken : Gives source source' bytes
   pub way : Advances sink.written sink'.written (λ more. text (bytes ++ more)) left_text
+  pub whole : IsLines way.done
 
 -- the source gave some bytes, and a front of the text of these was written
 pub record IsCutShort (source source' : SourceView) (sink sink' : SinkView) (text : List ℕ → List ℕ) : Type 0 where
@@ -48,12 +50,13 @@ pub record EndsAtFault (source source' : SourceView) (text : List ℕ → List �
   pub taken : Gives source source' bytes
   pub all : lines ≡ text bytes
 
--- Memory was wanted. The lines are a front of those of the bytes that the source gave.
+-- Memory was wanted. The lines are whole, and a front of those of the bytes that the source gave.
 pub record EndsForMemory (source source' : SourceView) (text : List ℕ → List ℕ) (lines : List ℕ) : Type 0 where
   pub bytes : List ℕ
   pub rest : List ℕ
   pub taken : Gives source source' bytes
   pub front : text bytes ≡ lines ++ rest
+  pub whole : IsLines lines
 
 -- what a cause for which the printing of a stream ends early says of the bytes and the lines
 abbrev pub EndsFor : Stop → ℕ → SourceView → SourceView → (List ℕ → List ℕ) → List ℕ → Type 0

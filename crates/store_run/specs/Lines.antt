@@ -1,5 +1,5 @@
 -- The lines that commands print of chunks and segments (this project's own).
-use Rattle.std.specs.Prelude.{ℕ, List, [], ◌∷◌, ◌++◌, length}
+use Rattle.std.specs.Prelude.{◌≡◌, ◌⊎◌, ℕ, List, [], ◌∷◌, ◌++◌, length}
 use Rattle.std.specs.List.{concat, flat_map}
 use Rattle.std.specs.Fmt.{decimal}
 use Rattle.ss_base.specs.declared.name.Piece.{Piece}
@@ -9,6 +9,10 @@ use Rattle.chunk_name.specs.Pieces.{name_of_bytes, piece, pieces}
 use Rattle.hook_sampler.specs.Hooks.{hooks}
 use Rattle.manifest_codec.specs.PiecesPart.{pieces_part}
 use Rattle.store_run.specs.SoFar.{Stage, segments_of}
+
+-- a text of whole lines: it is empty, or ends with LF
+abbrev pub IsLines : List ℕ → Type 0
+IsLines text = (text ≡ []) ⊎ ((front : List ℕ) × (text ≡ front ++ 10 ∷ []))
 
 -- the line of a piece: the digits of its name, a space, its length, LF
 unfoldable pub piece_line : Piece → List ℕ

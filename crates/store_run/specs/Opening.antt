@@ -1,5 +1,5 @@
 -- What opening a store finds (this project's own).
-use Rattle.std.specs.Prelude.{◌≡◌, ℕ, ◌^◌, true, List, IfSome, Result, Ok, Err, Vec}
+use Rattle.std.specs.Prelude.{◌≡◌, ℕ, true, List, IfSome, Result, Ok, Err, Vec}
 use Rattle.std.specs.declared.alloc.Global.{Global}
 use Rattle.ss_base.specs.declared.profile.Profile.{Profile}
 use Rattle.outside.specs.Shelf.{bytes_of}
@@ -7,6 +7,7 @@ use Rattle.outside.specs.Views.{ShelfView, OnlyReads}
 use Rattle.journal_entry.specs.declared.entry.Entry.{Entry}
 use Rattle.history.specs.declared.rules.Limits.{Limits}
 use Rattle.history.specs.Legal.{is_legal}
+use Rattle.journal_file.specs.declared.limits.TheConstants.{MAX_ENTRIES, MAX_WEIGHT}
 use Rattle.journal_file.specs.Header.{journal_name}
 use Rattle.journal_file.specs.Journal.{IsJournal, HasNoHeader, IsBadAt}
 use Rattle.journal_file.specs.Answer.{HasRead}
@@ -23,7 +24,7 @@ use Rattle.store_run.specs.Stop.{DepotCount}
 
 -- how long a store's history may get: 2^20 entries, and a weight of 2^24
 abbrev pub store_limits : Limits
-store_limits = record { entries = 2 ^ 20; weight = 2 ^ 24 }
+store_limits = record { entries = MAX_ENTRIES; weight = MAX_WEIGHT }
 
 -- what a journal with this profile and these entries asks to be
 abbrev pub store_of : Profile → List Entry → StateView

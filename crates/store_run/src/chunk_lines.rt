@@ -1,5 +1,6 @@
 // The lines that a command prints of a stream's chunks.
 ghost use Rattle.std.specs.Prelude.{◌≡◌, ◌≤◌, ◌++◌, ℕ, List, [], ◌∷◌, length, IfOk, OnOk, string_bytes};
+ghost use Rattle.store_run.specs.Lines.{IsLines};
 ghost use Rattle.store_run.specs.SoFar.{Stage, at_end, so_far};
 
 use ss_base::Memory;
@@ -20,6 +21,7 @@ pub trait ChunkLines: Drop {
         requires fits { length chunk.now ≤ most self.old }
         ensures lines { IfOk result (λ lines. (stage : Stage) (later : List (List ℕ)) →
             text stage self.old (chunk.now ∷ later) ≡ string_bytes lines ++ text stage self.new later) }
+        ensures whole { IfOk result (λ lines. IsLines (string_bytes lines)) }
         ensures none_whole { OnOk result (text so_far self.new [] ≡ []) }
         ensures most { most self.new ≡ most self.old };
 

@@ -67,6 +67,11 @@ fn damages() -> &'static str {
      status 5\n\
      size o 768\n\
      --\n\
+     c-0-0 byte 344 99\n\
+     sink 1$ restore zeros o\n\
+     status 5\n\
+     size o 768\n\
+     --\n\
      m-0-0 cut 191\n\
      $ restore zeros o\n\
      4 a1 look zeros r0 s0\n\
@@ -146,7 +151,10 @@ fn unlike() -> &'static str {
      5 a1 done r0\n\
      job 1 lane 1 restore unlike ba7816bf8f01cfea414140de5dae2223b00361a396177a9cb410ff61f20015ad\n\
      status 5\n\
-     size o 0\n"
+     size o 0\n\
+     sink 1$ restore zeros p\n\
+     status 5\n\
+     size p 0\n"
 }
 
 // The commit's text digest stands at 145, and is then that of a text which is no manifest.

@@ -4,15 +4,15 @@ ghost use Rattle.outside.specs.Views.{source_view, sink_view};
 ghost use Rattle.store_run.specs.Feed.{IsPrinted, IsHalted, IsCutShort};
 ghost use Rattle.store_run.specs.Halt.{OnEarly, OnUnprinted, CountsSource, CountsSink};
 ghost use Rattle.store_run.specs.LinePrinter.{still, Fits, IsUpToDate};
+ghost use Rattle.store_run.specs.Lines.{IsLines};
 ghost use Rattle.store_run.specs.SoFar.{at_end, so_far};
 
 use crate::chunk_lines::ChunkLines;
 use crate::line_printer::LinePrinter;
 use crate::stop::{Halt, Stop};
 use outside::{Sink, Source, Trouble};
+use ss_base::PIECE_LEN;
 use std::alloc::Global;
-
-const PIECE: usize = 65_536;
 
 /// Prints the lines of the source's bytes, which it reads in pieces of at most 65,536 and to their end. `TooLong`
 /// comes exactly where a piece brings the bytes above `limit`, `SourceFault` where the first read failed.
@@ -25,6 +25,7 @@ pub fn feed<L: ChunkLines, S: Source, O: Sink>(
 ) -> Result<(), Halt>
     requires fits { Fits L.most printer.old }
     requires up_to_date { IsUpToDate L.text printer.old }
+    requires whole { IsLines printer.old.waiting.items }
     ensures ok { OnOk result (IsPrinted limit
         (source_view ⟦<S as Source>⟧ source.old) (source_view ⟦<S as Source>⟧ source.new)
         (sink_view ⟦<O as Sink>⟧ out.old) (sink_view ⟦<O as Sink>⟧ out.new) (still L.text at_end printer.old)) }
@@ -40,7 +41,7 @@ pub fn feed<L: ChunkLines, S: Source, O: Sink>(
 {
     let mut taken = 0;
     loop {
-        let piece = match source.read(alloc, PIECE) {
+        let piece = match source.read(alloc, PIECE_LEN) {
             Ok(piece) => piece,
             Err(Trouble::Fault) => return Err(Halt::Early(Stop::SourceFault)),
             Err(Trouble::Memory) => return Err(Halt::Early(Stop::Memory)),

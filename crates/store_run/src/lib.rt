@@ -30,6 +30,10 @@ mod job_tests;
 #[cfg(test)]
 mod journal_tests;
 #[cfg(test)]
+mod reclaim_tests;
+#[cfg(test)]
+mod sink_fault_tests;
+#[cfg(test)]
 mod tests;
 #[cfg(test)]
 mod transcripts;

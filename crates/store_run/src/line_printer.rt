@@ -3,8 +3,9 @@ ghost use Rattle.std.specs.Prelude.{◌≡◌, ◌≤◌, ◌++◌, ℕ, List, [
 ghost use Rattle.std.specs.Io.KnownBytes.{Appends};
 ghost use Rattle.outside.specs.Bytes.{AppendsFront};
 ghost use Rattle.ss_base.specs.Profile.{numbers_of};
-ghost use Rattle.store_run.specs.Advances.{Advances};
+ghost use Rattle.store_run.specs.Advances.{AdvancesByLines};
 ghost use Rattle.store_run.specs.LinePrinter.{still, Fits, IsUpToDate};
+ghost use Rattle.store_run.specs.Lines.{IsLines};
 ghost use Rattle.store_run.specs.SoFar.{Stage, at_end, so_far, chunks_of};
 ghost use Rattle.store_run.specs.Halt.{OnEarly, OnUnprinted, CountsSink};
 
@@ -34,6 +35,7 @@ impl<L: ChunkLines> LinePrinter<L> {
         ensures text { IfOk result (λ printer. (stage : Stage) (more : List ℕ) →
             still L.text stage printer more ≡ L.text stage lines (chunks_of stage (numbers_of profile) more)) }
         ensures up_to_date { IfOk result (IsUpToDate L.text) }
+        ensures whole { IfOk result (λ printer. IsLines printer.waiting.items) }
     {
         Ok(LinePrinter {
             chunker: Chunker::new(alloc, profile)?,
@@ -54,6 +56,7 @@ impl<L: ChunkLines> LinePrinter<L> {
         requires { Fits L.most self.old }
         ensures fits { Fits L.most self.new }
         ensures lines { self.new.lines ≡ self.old.lines }
+        ensures waiting { self.new.waiting ≡ self.old.waiting }
         ensures ok { OnOk result ((stage : Stage) (more : List ℕ) →
             still L.text stage self.new more ≡ still L.text stage self.old (bytes.now ++ more)) }
         ensures err { OnErr result
@@ -66,13 +69,15 @@ impl<L: ChunkLines> LinePrinter<L> {
     pub fn print_ready<O: Sink>(&mut self, alloc: Global, out: &mut O) -> Result<(), Halt>
         requires fits { Fits L.most self.old }
         requires none_whole { L.text so_far self.old.lines [] ≡ [] }
+        requires whole { IsLines self.old.waiting.items }
         ensures fits { Fits L.most self.new }
-        ensures ok { OnOk result ((stage : Stage) → Advances (O.written out.old) (O.written out.new)
+        ensures ok { OnOk result ((stage : Stage) → AdvancesByLines (O.written out.old) (O.written out.new)
             (still L.text stage self.old) (still L.text stage self.new)) }
         ensures up_to_date { OnOk result (IsUpToDate L.text self.new) }
+        ensures whole { OnOk result (IsLines self.new.waiting.items) }
         ensures early { OnEarly result (λ why. (why ≡ Stop.Memory)
-            × Advances (O.written out.old) (O.written out.new) (still L.text so_far self.old)
-            (still L.text so_far self.new)) }
+            × (AdvancesByLines (O.written out.old) (O.written out.new) (still L.text so_far self.old)
+            (still L.text so_far self.new) × IsLines self.new.waiting.items)) }
         ensures unprinted { OnUnprinted result (AppendsFront (O.written out.old) (O.written out.new)
             (still L.text at_end self.old [])) }
         ensures count { CountsSink result (O.faults out.old) (O.faults out.new) }
@@ -87,11 +92,12 @@ impl<L: ChunkLines> LinePrinter<L> {
     pub fn finish<O: Sink>(&mut self, alloc: Global, out: &mut O) -> Result<(), Halt>
         requires fits { Fits L.most self.old }
         requires up_to_date { IsUpToDate L.text self.old }
+        requires whole { IsLines self.old.waiting.items }
         ensures ok { OnOk result (Appends (O.written out.old) (O.written out.new)
             (still L.text at_end self.old [])) }
         ensures early { OnEarly result (λ why. (why ≡ Stop.Memory)
-            × Advances (O.written out.old) (O.written out.new) (still L.text so_far self.old)
-            (still L.text so_far self.new)) }
+            × (AdvancesByLines (O.written out.old) (O.written out.new) (still L.text so_far self.old)
+            (still L.text so_far self.new) × IsLines self.new.waiting.items)) }
         ensures unprinted { OnUnprinted result (AppendsFront (O.written out.old) (O.written out.new)
             (still L.text at_end self.old [])) }
         ensures count { CountsSink result (O.faults out.old) (O.faults out.new) }

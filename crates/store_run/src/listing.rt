@@ -1,9 +1,10 @@
 // `journal`: one line for each entry of a store's history.
-ghost use Rattle.std.specs.Prelude.{◌+◌, ◌≤◌, ◌^◌, ◌++◌, length, OnOk, OnErr};
+ghost use Rattle.std.specs.Prelude.{◌+◌, ◌≤◌, ◌++◌, length, OnOk, OnErr};
 ghost use Rattle.std.specs.Io.KnownBytes.{Appends};
 ghost use Rattle.outside.specs.Bytes.{AppendsFront};
 ghost use Rattle.outside.specs.Faults.{HasCause};
 ghost use Rattle.outside.specs.Views.{sink_view, shelf_view};
+ghost use Rattle.journal_file.specs.declared.limits.TheConstants.{MAX_ENTRIES};
 ghost use Rattle.store_run.specs.Advances.{Moves};
 ghost use Rattle.store_run.specs.EntryLines.{entry_lines};
 ghost use Rattle.store_run.specs.Listing.{JournalAnswer};
@@ -33,7 +34,7 @@ pub fn list_journal<O: Sink, K: Shelf>(alloc: Global, depot: &mut K, out: &mut O
 }
 
 fn print_all<O: Sink>(alloc: Global, entries: &[Entry], out: &mut O) -> Result<(), Trouble>
-    requires { length entries.now ≤ 2 ^ 20 }
+    requires { length entries.now ≤ MAX_ENTRIES }
     ensures ok { OnOk result (Appends (O.written out.old) (O.written out.new) (entry_lines 0 entries.now)) }
     ensures err { OnErr result (AppendsFront (O.written out.old) (O.written out.new) (entry_lines 0 entries.now)) }
     ensures cause { HasCause (O.faults out.old) (O.faults out.new) result }
@@ -52,7 +53,7 @@ pub fn print_entries<O: Sink>(
     waiting: &mut Vec<u8>,
     out: &mut O,
 ) -> Result<(), Trouble>
-    requires { first + length entries.now ≤ 2 ^ 20 }
+    requires { first + length entries.now ≤ MAX_ENTRIES }
     ensures ok { OnOk result (Moves (O.written out.old) (O.written out.new)
         waiting.old.items waiting.new.items (entry_lines first entries.now)) }
     ensures err { OnErr result (AppendsFront (O.written out.old) (O.written out.new)

@@ -1,5 +1,6 @@
 // `names`: one line for each chunk.
 ghost use Rattle.std.specs.Prelude.{◌≡◌, IfOk, string_bytes};
+ghost use Rattle.ss_base.specs.declared.limits.TheConstants.{MAX_CHUNK_LEN};
 ghost use Rattle.store_run.specs.Lines.{chunk_lines, piece_line};
 
 use crate::chunk_lines::ChunkLines;
@@ -14,7 +15,7 @@ pub struct NameLines;
 impl ChunkLines for NameLines {
     ghost text = { λ _ _ chunks. chunk_lines chunks };
 
-    ghost most = { λ _. 11200 };
+    ghost most = { λ _. MAX_CHUNK_LEN };
 
     fn add(&mut self, alloc: Global, chunk: &[u8]) -> Result<String, Memory> {
         piece_line(alloc, &piece_of(chunk))

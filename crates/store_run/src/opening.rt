@@ -5,14 +5,10 @@ ghost use Rattle.store_run.specs.Opening.{stop_of, stop_of_replay, Opens};
 
 use crate::stop::Stop;
 use history::Limits;
-use journal_file::{JournalFault, read};
+use journal_file::{JournalFault, MAX_ENTRIES, MAX_WEIGHT, read};
 use outside::Shelf;
 use std::alloc::Global;
 use store_core::{OpenFault, State};
-
-const MAX_ENTRIES: u32 = 1 << 20;
-
-const MAX_WEIGHT: u32 = 1 << 24;
 
 /// The state of the store in a depot, from its journal. Nothing but reads is done. `NotStore`, `BadEntry`,
 /// `IllegalEntry`, `UnfinishedSession` and `UnfinishedReading` come exactly where the journal is such, at the first
@@ -22,7 +18,7 @@ pub fn open<K: Shelf>(alloc: Global, depot: &mut K) -> Result<State<8, 8>, Stop>
 {
     let (profile, entries) = read(alloc, depot)?;
     let limits = Limits {
-        entries: MAX_ENTRIES,
+        entries: MAX_ENTRIES as u32,
         weight: MAX_WEIGHT,
     };
     let state = State::replay(alloc, profile, limits, entries)?;

@@ -1,8 +1,9 @@
 // What is printed of a job and of the entries that it added.
-ghost use Rattle.std.specs.Prelude.{◌≡◌, ◌+◌, ◌≤◌, ◌^◌, ◌++◌, ◌∷◌, [], length, OnOk, OnErr};
+ghost use Rattle.std.specs.Prelude.{◌≡◌, ◌+◌, ◌≤◌, ◌++◌, ◌∷◌, [], length, OnOk, OnErr};
 ghost use Rattle.std.specs.Io.KnownBytes.{Appends};
 ghost use Rattle.outside.specs.Bytes.{AppendsFront};
 ghost use Rattle.outside.specs.Faults.{HasCause};
+ghost use Rattle.journal_file.specs.declared.limits.TheConstants.{MAX_ENTRIES};
 ghost use Rattle.store_run.specs.JobRun.{append_line, report_text, run_status};
 ghost use Rattle.store_run.specs.Stop.{sink_fault, least_status};
 
@@ -27,7 +28,7 @@ pub(crate) fn print_report<O: Sink>(
     kept: &Result<(), AppendFault>,
     out: &mut O,
 ) -> Result<(), Trouble>
-    requires { first + length entries.now ≤ 2 ^ 20 }
+    requires { first + length entries.now ≤ MAX_ENTRIES }
     ensures ok { OnOk result (Appends (O.written out.old) (O.written out.new) (report_text first entries.now job.now answer.now kept.now)) }
     ensures err { OnErr result (AppendsFront (O.written out.old) (O.written out.new) (report_text first entries.now job.now answer.now kept.now)) }
     ensures cause { HasCause (O.faults out.old) (O.faults out.new) result }

@@ -40,9 +40,10 @@ pub struct Lane<F, K> {
 /// the words, 4 where the depot failed, 6 where the journal is no store's, bad, illegal or unfinished, 7 where the
 /// source gave more than 2^40 bytes, 9 where the sink failed, 11 where there is a store already, 12 where the source
 /// failed. Of several the least stands. It is 8 for want of memory where no other stands, and also where memory kept a
-/// line from being printed. A run that ends early prints its fault line behind the lines that were whole by then; both
-/// are whole but where the sink failed or a write wanted memory. No fault is swallowed: a count rises only where the
-/// answer names it.
+/// line from being printed. A run that ends early prints its fault line behind the lines that were whole by then, at
+/// want of memory behind whole lines of a front of them; all are whole but where the sink failed or a write wanted
+/// memory. At status 0 no count of faults rose. At another a fault may stand behind want of memory: an erase of a
+/// reclaim, or an append before a line that could not be made.
 pub fn run_solo<S: Source, O: Sink, F: Shelf, K: Shelf>(
     alloc: Global,
     words: &[String],

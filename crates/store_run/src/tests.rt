@@ -268,6 +268,7 @@ fn least_statuses_beside_a_sink_fault(rt: HostRuntime) {
         (Stop::UnfinishedSession(0), 6),
         (Stop::UnfinishedReading(0), 6),
         (Stop::TooLong, 7),
+        (Stop::Callers, 7),
         (Stop::Memory, 9),
         (Stop::AlreadyStore, 9),
         (Stop::SourceFault, 9),

@@ -1,9 +1,11 @@
-use Rattle.std.proofs.Common.{◌≡◌, ◌++◌, ◌+◌, [], List, ℕ, length, refl, sym, ap, ◌∙◌, subst, arith, length-append, vec_len, Err}
+use Rattle.std.proofs.Common.{◌≡◌, ◌++◌, ◌+◌, [], List, ℕ, length, refl, sym, ap, ◌∙◌, subst, arith, length-append, vec_len, Vec, Err}
+use Rattle.std.specs.declared.alloc.Global.{Global}
 use Rattle.std.proofs.lemmas.Bool.{eqb-true}
 use Rattle.std.proofs.lemmas.Result.{err_from_is_err_and, on_ok_weaker}
 use Rattle.std.proofs.KnownBytes.{Consumes-nil}
 use Rattle.outside.specs.Views.{source_view, sink_view, Gives}
 use Rattle.store_run.specs.LinePrinter.{still}
+use Rattle.store_run.specs.Lines.{IsLines}
 use Rattle.store_run.specs.SoFar.{Stage, at_end, so_far}
 use Rattle.store_run.specs.declared.stop.Stop.{Stop}
 use Rattle.store_run.specs.Feed.{IsHalted}
@@ -18,6 +20,7 @@ loop-piece-init g c =
     record {
       fits = c.requires.fits;
       up_to_date = c.requires.up_to_date;
+      whole = c.requires.whole;
       fed = λ stage. ((start stage).0, ap length (start stage).1);
       within = omega arith;
       sources = refl;
@@ -59,7 +62,7 @@ returns-then-is_empty-clause-early g c =
     on_early_weaker c.finish.result
     (λ why early.
     subst (λ (w : Stop). IsHalted w c.args.limit (seen c.args.source.now) (seen c.read.new.self) (shown c.args.out.now) (shown c.finish.new.out) (still maker.text so_far c.args.printer.now) c.finish.new.self.waiting.items) (sym early.0)
-    (halted-memory _ _ (seen c.read.new.self) _ (shown c.finish.new.out) _ (still maker.text so_far c.finish.new.self) [] (under_way-printed _ _ _ _ (shown c.finish.new.out) _ _ (still maker.text so_far c.finish.new.self) read.0 early.1).0 (Consumes-nil _) c.args.limit c.finish.new.self.waiting.items _ refl))
+    (halted-memory _ _ (seen c.read.new.self) _ (shown c.finish.new.out) _ (still maker.text so_far c.finish.new.self) [] (under_way-printed _ _ _ _ (shown c.finish.new.out) _ _ (still maker.text so_far c.finish.new.self) read.0 early.1.0).0 (Consumes-nil _) c.args.limit c.finish.new.self.waiting.items _ refl early.1.1))
     c.finish.ensures.early
 
 pub returns-then-is_empty-clause-unprinted : goal.returns-then-is_empty-clause-unprinted
@@ -107,7 +110,7 @@ returns-in-Err-Memory-clause-early g c =
     let shown = sink_view g.O.Sink in
     let old = c.loop-piece.printer in
     let none = consumes-kept _ _ c.in-Err-Memory.ensures.bytes in
-    halted-memory _ _ (seen c.read.new.self) _ (shown c.loop-piece.out) _ (still maker.text so_far old) [] (c.loop-piece.invariant.fed so_far).0 none c.args.limit old.waiting.items _ refl
+    halted-memory _ _ (seen c.read.new.self) _ (shown c.loop-piece.out) _ (still maker.text so_far old) [] (c.loop-piece.invariant.fed so_far).0 none c.args.limit old.waiting.items _ refl c.loop-piece.invariant.whole
 
 pub returns-in_err-push-clause-early : goal.returns-in_err-push-clause-early
 returns-in_err-push-clause-early g c =
@@ -118,7 +121,11 @@ returns-in_err-push-clause-early g c =
     let now = c.push.new.self in
     let kept = under_way-read _ _ (seen c.loop-piece.source) _ (shown c.loop-piece.out) (still maker.text so_far c.args.printer.now) (still maker.text so_far old) [] (c.loop-piece.invariant.fed so_far).0 (Consumes-nil _) (still maker.text so_far now) (c.in_err-push.ensures.err so_far) in
     let p = err_from_is_err_and c.from_residual.result c.from_residual.ensures.1 in
-    rw (p.1, p.2) (halted-memory _ _ (seen c.read.new.self) _ (shown c.loop-piece.out) _ (still maker.text so_far now) c.in-Ok.piece.items kept.0 c.in-Ok.ensures.bytes c.args.limit now.waiting.items _ refl)
+    rw (p.1, p.2) (halted-memory _ _ (seen c.read.new.self) _ (shown c.loop-piece.out) _ (still maker.text so_far now) c.in-Ok.piece.items kept.0 c.in-Ok.ensures.bytes c.args.limit now.waiting.items _ refl
+    (subst (λ (waiting : Vec ℕ Global). IsLines waiting.items) (sym c.in_err-push.ensures.waiting) c.loop-piece.invariant.whole))
+
+pub print_ready-requires-clause-whole : goal.print_ready-requires-clause-whole
+print_ready-requires-clause-whole g c = subst (λ (waiting : Vec ℕ Global). IsLines waiting.items) (sym c.in_ok-push.ensures.waiting) c.loop-piece.invariant.whole
 
 pub returns-in_err-print_ready-clause-early : goal.returns-in_err-print_ready-clause-early
 returns-in_err-print_ready-clause-early g c =
@@ -135,7 +142,7 @@ returns-in_err-print_ready-clause-early g c =
     rw (p.1, p.2) (on_early_weaker {T = Unit {0}} (Err halt)
     (λ why early.
     subst (λ (w : Stop). IsHalted w c.args.limit (seen c.args.source.now) (seen c.read.new.self) (shown c.args.out.now) (shown c.print_ready.new.out) (still maker.text so_far c.args.printer.now) now.waiting.items) (sym early.0)
-    (halted-memory _ _ (seen c.read.new.self) _ (shown c.print_ready.new.out) _ (still maker.text so_far now) [] (under_way-printed _ _ _ _ (shown c.print_ready.new.out) _ _ (still maker.text so_far now) read.0 early.1).0 (Consumes-nil _) c.args.limit now.waiting.items _ refl))
+    (halted-memory _ _ (seen c.read.new.self) _ (shown c.print_ready.new.out) _ (still maker.text so_far now) [] (under_way-printed _ _ _ _ (shown c.print_ready.new.out) _ _ (still maker.text so_far now) read.0 early.1.0).0 (Consumes-nil _) c.args.limit now.waiting.items _ refl early.1.1))
     c.in_err-print_ready.ensures.early)
 
 pub returns-in_err-print_ready-clause-unprinted : goal.returns-in_err-print_ready-clause-unprinted
@@ -178,6 +185,7 @@ loop-piece-preserved g c =
     record {
       fits = c.in_ok-print_ready.ensures.fits;
       up_to_date = c.in_ok-print_ready.ensures.up_to_date;
+      whole = c.in_ok-print_ready.ensures.whole;
       fed = λ stage. ((printed stage).0, ap length ((printed stage).1 ∙ (read stage).1) ∙ count stage);
       within = omega arith;
       sources = c.in-Ok.ensures.cause.quiet ∙ c.loop-piece.invariant.sources;

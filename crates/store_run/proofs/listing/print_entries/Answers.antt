@@ -1,5 +1,5 @@
 use Rattle.std.proofs.Common.{◌∙◌, arith}
-use Rattle.store_run.proofs.AdvancesLaws.{front-none, advances-cut}
+use Rattle.store_run.proofs.AdvancesLaws.{front-none, advances-cut, writes-moves}
 use Rattle.store_run.proofs.EntryLineLaws.{lines-first, lines-none, lines-cut, lines-step, advances-moves}
 use Rattle.store_run.proofs.ResultLaws.{on_err}
 use Rattle.store_run.proofs.listing.print_entries.Goals as goal
@@ -21,7 +21,7 @@ loop-entry-preserved g c =
     let line = lines-first c.loop-entry.number c.loop-entry.rest.now c.in-Some.entry.now c.in-Some.behind.now c.as_bytes.result.now is.0 (c.as_bytes.ensures.value ∙ c.in_ok-line.ensures) in
     record {
       few = omega (arith, is.1, c.loop-entry.invariant.few);
-      way = lines-step _ _ _ _ _ _ _ _ _ c.loop-entry.invariant.way line c.in_ok-print_text.ensures.ok;
+      way = lines-step _ _ _ _ _ _ _ _ _ c.loop-entry.invariant.way line (writes-moves _ _ _ _ _ c.in_ok-print_text.ensures.ok);
       count = c.in_ok-print_text.ensures.cause.quiet ∙ c.loop-entry.invariant.count;
     }
 

@@ -1,4 +1,4 @@
-use Rattle.std.proofs.Common.{◌++◌, [], List, ℕ, refl, subst, sym}
+use Rattle.std.proofs.Common.{◌++◌, [], List, ℕ, inl, refl, subst, sym}
 use Rattle.std.proofs.KnownBytes.{Consumes-nil}
 use Rattle.outside.specs.Views.{source_view, sink_view}
 use Rattle.ss_base.specs.Profile.{numbers_of}
@@ -13,7 +13,7 @@ use Rattle.store_run.proofs.run.print_stream.Goals as goal
 pub returns-in_default : goal.returns-in_default
 returns-in_default g c =
     let text = λ (stage : Stage) (bytes : List ℕ). g.L.ChunkLines.text stage c.args.lines (chunks_of stage (numbers_of c.args.profile) bytes) in
-    record { answer = ended_early Memory [] (record { bytes = []; rest = text so_far []; taken = Consumes-nil _; front = refl }) refl c.refuse.ensures }
+    record { answer = ended_early Memory [] (record { bytes = []; rest = text so_far []; taken = Consumes-nil _; front = refl; whole = inl refl }) refl c.refuse.ensures }
 
 pub returns-in-Ok-feed : goal.returns-in-Ok-feed
 returns-in-Ok-feed g c =

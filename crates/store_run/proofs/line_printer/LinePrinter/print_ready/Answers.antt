@@ -5,10 +5,10 @@ use Rattle.outside.specs.Bytes.{AppendsFront}
 use Rattle.store_run.specs.declared.line_printer.LinePrinter.{LinePrinter}
 use Rattle.store_run.specs.LinePrinter.{still}
 use Rattle.store_run.specs.SoFar.{Stage, at_end, so_far, chunks_of}
-use Rattle.store_run.proofs.AdvancesLaws.{advances-of, advances-then, advances-cut}
+use Rattle.store_run.proofs.AdvancesLaws.{advances-cut, by_lines-none, by_lines-of, by_lines-then}
 use Rattle.std.proofs.lemmas.Result.{err_from_is_err_and}
 use Rattle.tttd_chunker.specs.Pending.{Pending}
-use Rattle.store_run.specs.Advances.{Advances}
+use Rattle.store_run.specs.Advances.{AdvancesByLines}
 use Rattle.store_run.proofs.ResultLaws.{on_unprinted}
 use Rattle.store_run.proofs.SoFarLaws.{chunks-first}
 use Rattle.store_run.proofs.line_printer.LinePrinter.print_ready.Goals as goal
@@ -27,7 +27,16 @@ returns-in_err-print_chunk-clause-unprinted g c =
     (first more ∙ ap (λ (chunk : List ℕ). chunk ∷ chunks_of at_end n (pending ++ more)) (sym c.deref.ensures.value)) in
     let front = subst (AppendsFront (sink.written c.loop-chunk.out) (sink.written c.print_chunk.new.out)) (sym (before [])) (c.in_err-print_chunk.ensures.err (chunks_of at_end n (pending ++ []))) in
     on_unprinted c.from_residual-in_err-print_chunk.result
-    (advances-cut _ _ _ (still maker.text at_end c.args.self.now) (still maker.text at_end self) [] (c.loop-chunk.invariant.way at_end) front)
+    (advances-cut _ _ _ (still maker.text at_end c.args.self.now) (still maker.text at_end self) [] (c.loop-chunk.invariant.way at_end).way front)
+
+pub loop-chunk-init : goal.loop-chunk-init
+loop-chunk-init g c = record {
+  fits = c.requires.fits;
+  none_whole = c.requires.none_whole;
+  whole = c.requires.whole;
+  way = λ stage. by_lines-none _ _ _ (λ more. refl);
+  count = refl;
+}
 
 pub loop-chunk-preserved : goal.loop-chunk-preserved
 loop-chunk-preserved g c =
@@ -48,9 +57,10 @@ loop-chunk-preserved g c =
       fits = subst (λ (p : Profile). (numbers_of p).tmax ≤ maker.most c.print_chunk.new.lines) (sym c.in_ok-chunk.ensures.profile)
           (subst (λ (m : ℕ). n.tmax ≤ m) (sym c.in_ok-print_chunk.ensures.most) c.loop-chunk.invariant.fits);
       none_whole = c.in_ok-print_chunk.ensures.none_whole;
+      whole = c.in_ok-print_chunk.ensures.whole;
       way = λ stage.
-          advances-then _ _ _ (still maker.text stage c.args.self.now) (still maker.text stage self) (still maker.text stage now) (c.loop-chunk.invariant.way stage)
-          (advances-of (sink.written c.loop-chunk.out) (sink.written c.print_chunk.new.out) _ _ (λ (more : List ℕ). chunks_of stage n (pending ++ more))
+          by_lines-then _ _ _ (still maker.text stage c.args.self.now) (still maker.text stage self) (still maker.text stage now) (c.loop-chunk.invariant.way stage)
+          (by_lines-of (sink.written c.loop-chunk.out) (sink.written c.print_chunk.new.out) _ _ (λ (more : List ℕ). chunks_of stage n (pending ++ more))
           (still maker.text stage self) (still maker.text stage now) (before stage) (after stage) (c.in_ok-print_chunk.ensures.ok stage));
       count = c.in_ok-print_chunk.ensures.cause.quiet ∙ c.loop-chunk.invariant.count;
     }
@@ -63,10 +73,13 @@ returns-in_err-chunk-clause-early g c =
     let p = err_from_is_err_and c.from_residual.result c.from_residual.ensures.1 in
     rw (p.1, p.2) (
       refl,
-      subst
-          (λ (chunker : Pending). Advances (sink.written c.args.out.now) (sink.written c.loop-chunk.out) (still maker.text so_far c.args.self.now)
-          (still maker.text so_far (record { chunker = chunker; lines = self.lines; waiting = self.waiting })))
-          (sym c.in_err-chunk.ensures.err) (c.loop-chunk.invariant.way so_far),
+      (
+        subst
+            (λ (chunker : Pending). AdvancesByLines (sink.written c.args.out.now) (sink.written c.loop-chunk.out) (still maker.text so_far c.args.self.now)
+            (still maker.text so_far (record { chunker = chunker; lines = self.lines; waiting = self.waiting })))
+            (sym c.in_err-chunk.ensures.err) (c.loop-chunk.invariant.way so_far),
+        c.loop-chunk.invariant.whole,
+      ),
     )
 
 pub returns-clause-ok : goal.returns-clause-ok
@@ -80,5 +93,5 @@ returns-clause-ok g c =
     ap (λ (bytes : List ℕ). self.waiting.items ++ maker.text stage self.lines (chunks_of stage (numbers_of c.next.new.self.profile) (bytes ++ more))) found.none
     ∙ ap (λ (p : Profile). self.waiting.items ++ maker.text stage self.lines (chunks_of stage (numbers_of p) (self.chunker.bytes ++ more))) found.profile in
     λ stage.
-    advances-of (sink.written c.args.out.now) (sink.written c.loop-chunk.out) (still maker.text stage c.args.self.now) (still maker.text stage self) (λ (more : List ℕ). more)
+    by_lines-of (sink.written c.args.out.now) (sink.written c.loop-chunk.out) (still maker.text stage c.args.self.now) (still maker.text stage self) (λ (more : List ℕ). more)
     (still maker.text stage c.args.self.now) (still maker.text stage now) (λ more. refl) (same stage) (c.loop-chunk.invariant.way stage)
