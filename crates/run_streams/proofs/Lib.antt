@@ -4,3 +4,4 @@ pub mod RestoreLaws
 pub mod PointLaws
 pub mod RunLaws
 pub mod WholeRunLaws
+pub mod ClosedLaws

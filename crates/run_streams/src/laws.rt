@@ -5,6 +5,7 @@ ghost use Rattle.ss_base.specs.Profile.{numbers_of};
 ghost use Rattle.journal_entry.specs.Bounds.{IsEntry};
 ghost use Rattle.outside.specs.Shelf.{Objects};
 ghost use Rattle.outside.specs.Views.{SinkView, ShelfView};
+ghost use Rattle.store_core.specs.Replay.{NoneIs, has_session, has_reading};
 ghost use Rattle.store_core.specs.View.{StateView, past_of};
 ghost use Rattle.restore.specs.Copies.{Shelves};
 ghost use Rattle.stored_streams.specs.Streams.{Streams};
@@ -49,6 +50,13 @@ pub fn streams_of_a_run()
         → IsOfStreams (numbers_of done.store.profile) streams (past_of done.store)
         → IsOfStreams (numbers_of done.store.profile) streams (past_of done.new)
         ⊎ Collide (numbers_of done.store.profile) streams (past_of done.new) (IsGiven (held objects ∷ []) (past_of done.new)) }
+{}
+
+/// Behind a run that did a job no session and no reading is unfinished, whatever its status. It runs nothing.
+pub fn closed_by_a_run()
+    ensures { (kind : JobKind) (before after : Shelves) (sink sink' : SinkView) (status : ℕ)
+        → (done : HasDoneJob kind before after sink sink' status)
+        → NoneIs (has_session done.new) × NoneIs (has_reading done.new) }
 {}
 
 /// Runs whose entries were kept leave a store whole whose depot was whole: its journal is that of a legal history of the

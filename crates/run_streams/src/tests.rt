@@ -7,5 +7,6 @@ fn each_law_is_called(_rt: HostRuntime) -> Result<(), Fail> {
     restored_by_a_run();
     streams_of_a_run();
     stores_stay_whole();
+    closed_by_a_run();
     Ok(())
 }
