@@ -5,7 +5,7 @@ use Rattle.std.specs.FinMap as map_of
 use Rattle.std.specs.Option.{unwrap_or}
 use Rattle.std.specs.List.{All, AllByRecursion}
 use Rattle.std.specs.declared.alloc.Global.{Global}
-use Rattle.std.proofs.lemmas.Bool.{and_parts}
+use Rattle.std.proofs.lemmas.Bool.{false≢true, and_parts}
 use Rattle.std.proofs.lemmas.List.{reverse-append, length-reverse}
 use Rattle.std.proofs.lemmas.Grind.{flat_map-append}
 use Rattle.std.proofs.lemmas.List.Elements.{All-nil, All-cons, All-tail}
@@ -33,12 +33,13 @@ use Rattle.journal_entry.specs.Weight.{point_weight, weight}
 use Rattle.history.specs.declared.rules.Limits.{Limits}
 use Rattle.history.specs.declared.rules.Rules.{Rules}
 use Rattle.history.specs.Legal.{unfinished_sessions, unfinished_readings, is_allowed, is_within, may_follow, is_legal}
-use Rattle.history.specs.Need.{reclaims, erasable}
-use Rattle.history.specs.Sessions.{has}
+use Rattle.history.specs.Need.{reclaims, erasable, is_live}
+use Rattle.history.specs.Sessions.{has, is_unfinished}
 use Rattle.history_laws.proofs.Allowed.{step}
 use Rattle.history_laws.proofs.SessionLaws.{has_now}
 use Rattle.journal_file.specs.Adding.{with_entries}
 use Rattle.journal_file.specs.Header.{journal_name, header_text}
+use Rattle.journal_file.specs.Journal.{journal_text}
 use Rattle.journal_file.proofs.AnswerLaws.{one_journal}
 use Rattle.store_core.specs.declared.fault.PointFault.{PointFault}
 use Rattle.store_core.specs.declared.fault.PointFault.TheVariants as point
@@ -67,7 +68,7 @@ use Rattle.job_run.specs.Erasing.{IsErased, AreErased, HasReclaimed, LastReclaim
 use Rattle.job_run.specs.Erasing.HasReclaimed.{none, more}
 use Rattle.job_run.specs.Erasing.LastReclaim.{few, troubled, unmade}
 use Rattle.store_run.specs.JobRun.{Kept, KeepAnswer, HasDoneJob}
-use Rattle.store_run.specs.Opening.{IsLegal, IsJournalOf}
+use Rattle.store_run.specs.Opening.{store_of, IsLegal, IsJournalOf}
 use Rattle.run_streams.specs.RunStreams.{HasFile, HasInput}
 use Rattle.run_streams.specs.WholeStores.{IsWholeStore, KeepsStore, KeepStore}
 use Rattle.run_streams.specs.WholeStores.KeepsStore.{job_done, only_read}
@@ -411,3 +412,15 @@ whole_restored streams store name output before after sink sink' done is =
     let whole = subst (λ (s : StateView). IsWhole (numbers_of s.profile) streams (past_of s) is.objects) (sym same) is.whole in
     subst (λ (s : StateView). ((count : ℕ) × HasRestored streams (past_of s) name output before.files after.files count) ⊎ ChunksCollide (numbers_of s.profile) streams (past_of s)) same
     (whole_given_back streams is.objects name output before after sink sink' done is.told was whole)
+
+-- a store without entries
+pub first_store : (streams : Streams) (depot : ShelfView) (objects : Objects) (profile : Profile) → depot.held ≡ Some objects → bytes_of objects journal_name ≡ journal_text profile [] → IsWholeStore streams depot (store_of profile [])
+unfolding is_live is_unfinished has is_legal weight
+first_store streams depot objects profile told text = record {
+  objects = objects;
+  told = told;
+  journal = record { journal = record { text = text; valid = tt; fits = record { count = omega arith; weight = omega arith } }; limits = refl };
+  legal = refl;
+  of_streams = record { contents = record { contents = tt; complete = tt }; stored = record { stored = tt; ends = tt } };
+  whole = record { manifests = λ id live. absurd (false≢true live); containers = λ id unfinished below. absurd (false≢true unfinished) };
+}

@@ -1,10 +1,13 @@
 // From what a run of a job did to the streams of its store.
 ghost use Rattle.std.specs.Prelude.{ℕ, ◌≡◌, ◌⊎◌, [], ◌∷◌, List, Some};
 ghost use Rattle.std.specs.List.{All};
+ghost use Rattle.ss_base.specs.declared.profile.Profile.{Profile};
 ghost use Rattle.ss_base.specs.Profile.{numbers_of};
 ghost use Rattle.journal_entry.specs.Bounds.{IsEntry};
-ghost use Rattle.outside.specs.Shelf.{Objects};
+ghost use Rattle.outside.specs.Shelf.{Objects, bytes_of};
 ghost use Rattle.outside.specs.Views.{SinkView, ShelfView};
+ghost use Rattle.journal_file.specs.Header.{journal_name};
+ghost use Rattle.journal_file.specs.Journal.{journal_text};
 ghost use Rattle.store_core.specs.Replay.{NoneIs, has_session, has_reading};
 ghost use Rattle.store_core.specs.View.{StateView, past_of};
 ghost use Rattle.restore.specs.Copies.{Shelves};
@@ -17,6 +20,7 @@ ghost use Rattle.restored_streams.specs.Restored.{HasRestored, ChunksCollide};
 ghost use Rattle.job_script.specs.declared.job.JobKind.{JobKind};
 ghost use Rattle.job_script.specs.declared.job.JobKind.TheVariants.{Restore};
 ghost use Rattle.store_run.specs.JobRun.{HasDoneJob};
+ghost use Rattle.store_run.specs.Opening.{store_of};
 ghost use Rattle.run_streams.specs.RunStreams.{HasInput};
 ghost use Rattle.run_streams.specs.WholeStores.{IsWholeStore, KeepsStore, KeepStore};
 
@@ -59,9 +63,14 @@ pub fn closed_by_a_run()
         → NoneIs (has_session done.new) × NoneIs (has_reading done.new) }
 {}
 
-/// Runs whose entries were kept leave a store whole whose depot was whole: its journal is that of a legal history of the
-/// streams then, and its objects are whole for it. Each backup's stream is its input's bytes. It runs nothing.
+/// A store without entries is whole. Runs whose entries were kept leave a store whole whose depot was whole: its journal is
+/// that of a legal history of the streams then, and its objects are whole for it. Each backup's stream is its input's
+/// bytes. It runs nothing.
 pub fn stores_stay_whole()
+    ensures first { (streams : Streams) (depot : ShelfView) (objects : Objects) (profile : Profile)
+        → depot.held ≡ Some objects
+        → bytes_of objects journal_name ≡ journal_text profile []
+        → IsWholeStore streams depot (store_of profile []) }
     ensures one { (streams : Streams) (before after : Shelves) (store : StateView)
         → KeepsStore streams before after
         → IsWholeStore streams before.depot store
