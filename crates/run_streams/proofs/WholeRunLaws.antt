@@ -1,6 +1,7 @@
 -- A run leaves a whole store whole.
-use Rattle.std.proofs.Common.{◌≡◌, ◌⊎◌, ℕ, ◌+◌, ◌≤◌, Bool, true, List, [], ◌∷◌, ◌++◌, length, reverse, map, take, Option, Some, None, refl, sym, ap, ◌∙◌, subst, inl, inr, arith, append-nil, append_assoc, leb, leb-true}
-use Rattle.std.specs.Prelude.{Ok, Err, Vec}
+use Rattle.std.proofs.Common.{◌≡◌, ◌⊎◌, false, ℕ, ◌+◌, ◌≤◌, Bool, true, List, [], ◌∷◌, ◌++◌, length, reverse, map, take, Option, Some, None, refl, sym, ap, ◌∙◌, subst, inl, inr, arith, append-nil, append_assoc, leb, leb-true}
+use Rattle.std.specs.Prelude.{Result, Ok, Err, Vec}
+use Rattle.std.specs.FinMap.{contains_key}
 use Rattle.std.specs.FinMap as map_of
 use Rattle.std.specs.Option.{unwrap_or}
 use Rattle.std.specs.List.{All, AllByRecursion}
@@ -34,7 +35,7 @@ use Rattle.history.specs.declared.rules.Limits.{Limits}
 use Rattle.history.specs.declared.rules.Rules.{Rules}
 use Rattle.history.specs.Legal.{unfinished_sessions, unfinished_readings, is_allowed, is_within, may_follow, is_legal}
 use Rattle.history.specs.Need.{reclaims, erasable, is_live}
-use Rattle.history.specs.Sessions.{has, is_unfinished}
+use Rattle.history.specs.Sessions.{has, is_unfinished, retained}
 use Rattle.history_laws.proofs.Allowed.{step}
 use Rattle.history_laws.proofs.SessionLaws.{has_now}
 use Rattle.journal_file.specs.Adding.{with_entries}
@@ -45,7 +46,9 @@ use Rattle.store_core.specs.declared.fault.PointFault.{PointFault}
 use Rattle.store_core.specs.declared.fault.PointFault.TheVariants as point
 use Rattle.store_core.specs.View.{StateView, past_of, rules_of, made, Adds}
 use Rattle.store_core.specs.Answers.{reclaim_entry, ReclaimAnswer}
+use Rattle.depot.specs.declared.fault.RestoreFault.{RestoreFault}
 use Rattle.restore.specs.Copies.{Shelves}
+use Rattle.restore.specs.Restores.{StateCalls, RestoreAnswer}
 use Rattle.history_calls.specs.Tokens.{IdleView}
 use Rattle.session.specs.Backup.{HasRunAlone}
 use Rattle.stored_streams.specs.Streams.{Streams}
@@ -57,7 +60,11 @@ use Rattle.whole_objects.specs.Keeps.{IsNoObject, CommitsNothing}
 use Rattle.whole_objects.proofs.EntryLaws.{whole_behind}
 use Rattle.whole_objects.proofs.KeepLaws.{whole_kept}
 use Rattle.whole_objects.proofs.ReclaimLaws.{whole_without}
+use Rattle.restored_streams.specs.Complete.{NoneFailed, IsAnswered}
 use Rattle.restored_streams.specs.Restored.{HasRestored, ChunksCollide}
+use Rattle.restored_streams.proofs.AnsweredLaws.{answered_so}
+use Rattle.restored_streams.proofs.CallLaws.{answered_undamaged}
+use Rattle.restored_streams.proofs.StreamLaws.{IsKnown as Known}
 use Rattle.backed_up_streams.specs.OfInput.{IsOfInput}
 use Rattle.backed_up_streams.specs.WholeThen.{IsWholeThen}
 use Rattle.backed_up_streams.proofs.WholeBackupLaws.{whole-backup}
@@ -73,7 +80,7 @@ use Rattle.run_streams.specs.RunStreams.{HasFile, HasInput}
 use Rattle.run_streams.specs.WholeStores.{IsWholeStore, KeepsStore, KeepStore}
 use Rattle.run_streams.specs.WholeStores.KeepsStore.{job_done, only_read}
 use Rattle.run_streams.specs.WholeStores.KeepStore.{no_run, one_more}
-use Rattle.run_streams.proofs.OpenedLaws.{told_store, entries_in}
+use Rattle.run_streams.proofs.OpenedLaws.{told_store, store_entries, entries_in}
 use Rattle.run_streams.proofs.RestoreLaws.{whole_given_back}
 use Rattle.run_streams.proofs.PointLaws.{StoreNothing, restore_stores_nothing, delete_stores_nothing, stat_stores_nothing, reclaim_stores_nothing, entries_store_nothing}
 
@@ -424,3 +431,21 @@ first_store streams depot objects profile told text = record {
   of_streams = record { contents = record { contents = tt; complete = tt }; stored = record { stored = tt; ends = tt } };
   whole = record { manifests = λ id live. absurd (false≢true live); containers = λ id unfinished below. absurd (false≢true unfinished) };
 }
+
+pub restore_answered : (streams : Streams) (store : StateView) (files : Objects) (session : ℕ) (name output : List ℕ) (before after : Shelves) (sink sink' : SinkView) (status : ℕ) (done : HasDoneJob (Restore name output) before after sink sink' status) → IsWholeStore streams before.depot store
+    → retained name (past_of store) ≡ Some session → before.files.held ≡ Some files → contains_key files output ≡ false → NoneFailed done.opened done.done → IsAnswered done.store done.new done.job.result
+restore_answered streams store files session name output before after sink sink' status done is held told absent none_failed =
+    let opened = told_store before.depot done.opened.depot done.store is.objects done.opens is.told in
+    let same : done.store ≡ store = one_store (bytes_of is.objects journal_name) done.store store opened.journal is.journal in
+    let n = numbers_of done.store.profile in
+    let rules = rules_of 8 8 done.store in
+    let was = subst (λ (s : StateView). IsOfStreams (numbers_of s.profile) streams (past_of s)) (sym same) is.of_streams in
+    let whole = subst (λ (s : StateView). IsWhole (numbers_of s.profile) streams (past_of s) is.objects) (sym same) is.whole in
+    let known : Known n streams rules (past_of done.store) =
+    record { sound = AreSound-numbers_of done.store.profile; legal = opened.legal; entries = store_entries (bytes_of is.objects journal_name) done.store opened; of_streams = was } in
+    let files_told : done.opened.files.held ≡ Some files = ap (λ (f : ShelfView). f.held) done.files_same ∙ told in
+    answered_so done.store done.new done.author name session files output done.opened done.done done.job.result (subst (λ (s : StateView). retained name (past_of s) ≡ Some session) (sym same) held) done.job.done done.job.cause files_told absent none_failed
+    (λ fault failed.
+    answered_undamaged n streams rules is.objects done.store done.new done.author name output done.opened done.done fault known whole
+    (subst (λ (r : Result ℕ RestoreFault). RestoreAnswer (StateCalls done.store done.author name done.new) output done.opened done.done r) failed done.job.done)
+    (done.opens.only_reads.held ∙ is.told))

@@ -1,5 +1,6 @@
 // From what a run of a job did to the streams of its store.
-ghost use Rattle.std.specs.Prelude.{ℕ, ◌≡◌, ◌⊎◌, [], ◌∷◌, List, Some};
+ghost use Rattle.std.specs.FinMap.{contains_key};
+ghost use Rattle.std.specs.Prelude.{ℕ, ◌≡◌, ◌⊎◌, false, [], ◌∷◌, List, Some};
 ghost use Rattle.std.specs.List.{All};
 ghost use Rattle.ss_base.specs.declared.profile.Profile.{Profile};
 ghost use Rattle.ss_base.specs.Profile.{numbers_of};
@@ -10,12 +11,14 @@ ghost use Rattle.journal_file.specs.Header.{journal_name};
 ghost use Rattle.journal_file.specs.Journal.{journal_text};
 ghost use Rattle.store_core.specs.Replay.{NoneIs, has_session, has_reading};
 ghost use Rattle.store_core.specs.View.{StateView, past_of};
+ghost use Rattle.history.specs.Sessions.{retained};
 ghost use Rattle.restore.specs.Copies.{Shelves};
 ghost use Rattle.stored_streams.specs.Streams.{Streams};
 ghost use Rattle.stored_streams.specs.OfStreams.{IsOfStreams};
 ghost use Rattle.stored_streams.specs.Reads.{IsGiven};
 ghost use Rattle.stored_streams.specs.Reads.Reads.{held};
 ghost use Rattle.stored_streams.specs.Collision.{Collide};
+ghost use Rattle.restored_streams.specs.Complete.{NoneFailed, IsAnswered};
 ghost use Rattle.restored_streams.specs.Restored.{HasRestored, ChunksCollide};
 ghost use Rattle.job_script.specs.declared.job.JobKind.{JobKind};
 ghost use Rattle.job_script.specs.declared.job.JobKind.TheVariants.{Restore};
@@ -82,4 +85,18 @@ pub fn stores_stay_whole()
     // The depot tells which store it is.
     ensures same { (streams : Streams) (depot : ShelfView) (one other : StateView)
         → IsWholeStore streams depot one → IsWholeStore streams depot other → one ≡ other }
+{}
+
+/// A restore that nothing keeps off is answered: from a whole store, of a name that is retained, to an output that is told
+/// to be absent, where no count of faults rose in the job. Else its look had no room in the journal, or memory was wanted.
+/// It runs nothing.
+pub fn restores_are_answered()
+    ensures { (streams : Streams) (store : StateView) (files : Objects) (session : ℕ) (name output : List ℕ) (before after : Shelves) (sink sink' : SinkView) (status : ℕ)
+        → (done : HasDoneJob (Restore name output) before after sink sink' status)
+        → IsWholeStore streams before.depot store
+        → retained name (past_of store) ≡ Some session
+        → before.files.held ≡ Some files
+        → contains_key files output ≡ false
+        → NoneFailed done.opened done.done
+        → IsAnswered done.store done.new done.job.result }
 {}

@@ -4,7 +4,9 @@
 
 mod laws;
 
-pub use laws::{closed_by_a_run, restored_by_a_run, stores_stay_whole, streams_of_a_run};
+pub use laws::{
+    closed_by_a_run, restored_by_a_run, restores_are_answered, stores_stay_whole, streams_of_a_run,
+};
 
 #[cfg(test)]
 mod tests;

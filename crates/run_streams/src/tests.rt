@@ -8,5 +8,6 @@ fn each_law_is_called(_rt: HostRuntime) -> Result<(), Fail> {
     streams_of_a_run();
     stores_stay_whole();
     closed_by_a_run();
+    restores_are_answered();
     Ok(())
 }
