@@ -1,20 +1,14 @@
 -- A backup over a whole depot meets no damage.
-use Rattle.std.proofs.Common.{◌≡◌, ℕ, true, false, List, [], ◌∷◌, ◌++◌, length, Some, Err, refl, sym, ap, ◌∙◌, subst, inl, inr, append_assoc}
+use Rattle.std.proofs.Common.{◌≡◌, ℕ, true, List, [], ◌∷◌, ◌++◌, length, Some, Err, refl, sym, ap, ◌∙◌, subst, inl, append_assoc}
 use Rattle.std.specs.List.{All}
-use Rattle.std.proofs.lemmas.Bool.{false≢true, both_ways, cases_Bool}
-use Rattle.ss_base.specs.declared.ids.ContainerId.{ContainerId}
 use Rattle.ss_base.specs.declared.ids.ManifestId.{ManifestId}
-use Rattle.ss_base.specs.declared.ids.Place.{Place}
-use Rattle.ss_base.specs.declared.name.Name.{Name}
 use Rattle.ss_base.specs.declared.profile.Numbers.{Numbers}
 use Rattle.ss_base.specs.Ids.{same_manifest, has_manifest}
 use Rattle.ss_base.specs.Profile.{AreSound, numbers_of}
 use Rattle.ss_base.proofs.SoundLaws.{AreSound-numbers_of}
-use Rattle.ss_base.proofs.IdLaws.{same_manifest-self, same_manifest-true}
+use Rattle.ss_base.proofs.IdLaws.{same_manifest-self}
 use Rattle.ss_base.proofs.MemberLaws.{In, in_any, in_append_right, filter_map_in}
 use Rattle.chunk_name.specs.Pieces.{name_of_bytes}
-use Rattle.manifest_codec.specs.PiecesPart.{pieces_part}
-use Rattle.manifest_codec.specs.Containers.{AreContainers}
 use Rattle.outside.specs.Shelf.{Objects, bytes_of}
 use Rattle.outside.specs.Views.{ShelfView, SourceView}
 use Rattle.outside.specs.declared.trouble.Trouble.{Trouble}
@@ -23,20 +17,18 @@ use Rattle.segment_reader.specs.SegmentsOf.{segments_of}
 use Rattle.segment_reader.specs.declared.fault.NextFault.{NextFault}
 use Rattle.segment_reader.specs.declared.fault.NextFault.TheVariants as next
 use Rattle.journal_entry.specs.declared.entry.Entry.{Entry}
-use Rattle.journal_entry.specs.declared.entry.Point.{Point}
-use Rattle.journal_entry.specs.declared.entry.Point.TheVariants.{Begin, Abort, Commit}
+use Rattle.journal_entry.specs.declared.entry.Point.TheVariants.{Begin, Abort}
 use Rattle.journal_entry.specs.Bounds.{IsEntry}
 use Rattle.history.specs.declared.rules.Rules.{Rules}
 use Rattle.history.specs.Legal.{is_legal}
-use Rattle.history.specs.Need.{commits_manifest, is_live}
+use Rattle.history.specs.Need.{is_live}
 use Rattle.history.specs.Sessions.{has}
 use Rattle.history_laws.proofs.LiveLaws.{pending_live}
-use Rattle.history_laws.proofs.SessionLaws.{has_none, has_cases}
 use Rattle.store_core.specs.declared.fault.BeginFault.{BeginFault}
 use Rattle.store_core.specs.declared.fault.BeginFault.TheVariants as begin
 use Rattle.store_core.specs.declared.fault.PointFault.{PointFault}
 use Rattle.store_core.specs.declared.fault.PointFault.TheVariants as point
-use Rattle.store_core.specs.View.{KeptView, kept, kept_by, all_kept, made, past_of}
+use Rattle.store_core.specs.View.{KeptView, kept, all_kept, made, past_of}
 use Rattle.depot.specs.declared.fault.BackupFault.{BackupFault}
 use Rattle.depot.specs.declared.fault.LoadFault.{LoadFault}
 use Rattle.depot.specs.declared.fault.LoadFault.TheVariants.{Shelf, Damaged, Unlike, Memory}
@@ -58,11 +50,10 @@ use Rattle.session.specs.Stops.HasGivenUpChosen.{unstored, uncommitted}
 use Rattle.session.specs.Stops.HasGivenUp.{unsampled, unchosen, behind}
 use Rattle.session.specs.Stores.{Reached, at_start}
 use Rattle.stored_streams.specs.Streams.{Streams, manifest_pieces}
-use Rattle.stored_streams.specs.Plans.{Planned, planned_places, plan_for, next_plan, plans_after, plans_of, text_of}
-use Rattle.stored_streams.specs.OfStreams.{ContentOf, StoredOf, EachEntry, IsOfStreams}
+use Rattle.stored_streams.specs.Plans.{Planned, planned_places, plans_of, text_of}
+use Rattle.stored_streams.specs.OfStreams.{IsOfStreams}
 use Rattle.stored_streams.specs.Whole.{IsWhole}
-use Rattle.stored_streams.proofs.CommittedLaws.{committed_kept, committed_manifest, kept_here, kept_older, kept_counts}
-use Rattle.stored_streams.proofs.PlanLaws.{places_newest, places_stay}
+use Rattle.stored_streams.proofs.CommittedLaws.{committed_kept, committed_manifest, kept_counts, kept_stored}
 use Rattle.backed_up_streams.specs.NoDamage.{TellsNoDamage}
 use Rattle.backed_up_streams.specs.OfInput.{IsOfInput}
 use Rattle.backed_up_streams.proofs.AloneLaws.{alone, is_chosen_at, aborted_chosen}
@@ -74,48 +65,6 @@ use Rattle.backed_up_streams.proofs.StreamLaws.{StandsSo, WaitsSo, waits_so, seg
 use Rattle.backed_up_streams.proofs.RunLaws.{start, front_of}
 use Rattle.backed_up_streams.proofs.WholeLaws.{IsAllowed, allowed_before, Facts, WholeSo, planned_text, given_planned}
 use Rattle.backed_up_streams.proofs.WholeBackupLaws.{ToldIs, AllowedIs, tells, at_first}
-
--- ---- what was kept is like what was planned
-
-record IsStored (n : Numbers) (streams : Streams) (past : List Entry) (id : ManifestId) (view : KeptView) : Type 0 where
-  content : view.content ≡ name_of_bytes (pieces_part (manifest_pieces n streams id))
-  uses : AreContainers (planned_places id (plans_of n streams past)) view.uses
-
-stored_commit : (n : Numbers) (streams : Streams) (past : List Entry) (author : ℕ) (id : ManifestId) (content text : Name) (chunks bytes fresh fresh_bytes : ℕ) (uses : List ContainerId) → ContentOf n streams past (Commit id content text chunks bytes fresh fresh_bytes uses) → StoredOf n streams past (Commit id content text chunks bytes fresh fresh_bytes uses)
-    → IsStored n streams (record { author = author; point = Commit id content text chunks bytes fresh fresh_bytes uses } ∷ past) id (record { id = id; text = text; content = content; chunks = chunks; uses = uses })
-unfolding plans_of plans_after next_plan plan_for
-stored_commit n streams past author id content text chunks bytes fresh fresh_bytes uses holds stored =
-    let plans = plans_of n streams past in
-    let plan = next_plan n streams past id plans in
-    let places : planned_places id (plan ∷ plans) ≡ plan.places = places_newest id plan plans refl in
-    record { content = holds.digest; uses = subst (λ (ps : List Place). AreContainers ps uses) (sym places) stored.containers }
-
-stored_here : (n : Numbers) (streams : Streams) (past : List Entry) (author : ℕ) (id : ManifestId) (view : KeptView) (point : Point) → commits_manifest id point ≡ true → ContentOf n streams past point → StoredOf n streams past point → kept_by point ≡ Some view → IsStored n streams (record { author = author; point = point } ∷ past) id view
-unfolding commits_manifest kept_by
-stored_here n streams past author id view (Commit other content text chunks bytes fresh fresh_bytes uses) does holds stored is =
-    let at : KeptView = record { id = other; text = text; content = content; chunks = chunks; uses = uses } in
-    let same : at ≡ view = cc in
-    let past' = record { author = author; point = Commit other content text chunks bytes fresh fresh_bytes uses } ∷ past in
-    subst (IsStored n streams past' id) same
-    (subst (λ (i : ManifestId). IsStored n streams past' i at) (sym (same_manifest-true id other does))
-    (stored_commit n streams past author other content text chunks bytes fresh fresh_bytes uses holds stored))
-stored_here n streams past author id view _ does holds stored is = absurd (false≢true does)
-
-stored_before : (n : Numbers) (streams : Streams) (entry : Entry) (past : List Entry) (id : ManifestId) (view : KeptView) → commits_manifest id entry.point ≡ false → IsStored n streams past id view → IsStored n streams (entry ∷ past) id view
-unfolding plans_of
-stored_before n streams entry past id view other older =
-    let stay : planned_places id (plans_of n streams (entry ∷ past)) ≡ planned_places id (plans_of n streams past) = places_stay n streams past id entry.point (plans_of n streams past) other in
-    record { content = older.content; uses = subst (λ (ps : List Place). AreContainers ps view.uses) (sym stay) older.uses }
-
-kept_stored : (n : Numbers) (streams : Streams) (past : List Entry) (id : ManifestId) (view : KeptView) → EachEntry (ContentOf n streams) past → EachEntry (StoredOf n streams) past → has (commits_manifest id) past ≡ true → kept id past ≡ Some view → IsStored n streams past id view
-kept_stored n streams [] id view contents stored committed is = absurd (both_ways _ (has_none (commits_manifest id)) committed)
-kept_stored n streams (entry ∷ past) id view contents stored committed is = elim (cases_Bool (commits_manifest id entry.point)) [
-  | inl here ↦ stored_here n streams past entry.author id view entry.point here contents.1 stored.1 (sym (kept_here id entry past here) ∙ is)
-  | inr other ↦ elim (has_cases (commits_manifest id) entry past committed) [
-    | inl here ↦ absurd (both_ways _ other here)
-    | inr older ↦ stored_before n streams entry past id view other (kept_stored n streams past id view contents.0 stored.0 older (sym (kept_older id entry past other) ∙ is))
-  ]
-]
 
 -- ---- faults that tell of no damage
 
