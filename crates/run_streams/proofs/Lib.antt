@@ -5,3 +5,4 @@ pub mod PointLaws
 pub mod RunLaws
 pub mod WholeRunLaws
 pub mod ClosedLaws
+pub mod WholeAnswerLaws

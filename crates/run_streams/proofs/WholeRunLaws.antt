@@ -1,7 +1,6 @@
 -- A run leaves a whole store whole.
-use Rattle.std.proofs.Common.{◌≡◌, ◌⊎◌, false, ℕ, ◌+◌, ◌≤◌, Bool, true, List, [], ◌∷◌, ◌++◌, length, reverse, map, take, Option, Some, None, refl, sym, ap, ◌∙◌, subst, inl, inr, arith, append-nil, append_assoc, leb, leb-true}
-use Rattle.std.specs.Prelude.{Result, Ok, Err, Vec}
-use Rattle.std.specs.FinMap.{contains_key}
+use Rattle.std.proofs.Common.{◌≡◌, ℕ, ◌+◌, ◌≤◌, Bool, true, List, [], ◌∷◌, ◌++◌, length, reverse, map, take, Option, Some, None, refl, sym, ap, ◌∙◌, subst, inl, inr, arith, append-nil, append_assoc, leb, leb-true}
+use Rattle.std.specs.Prelude.{Ok, Err, Vec}
 use Rattle.std.specs.FinMap as map_of
 use Rattle.std.specs.Option.{unwrap_or}
 use Rattle.std.specs.List.{All, AllByRecursion}
@@ -35,7 +34,7 @@ use Rattle.history.specs.declared.rules.Limits.{Limits}
 use Rattle.history.specs.declared.rules.Rules.{Rules}
 use Rattle.history.specs.Legal.{unfinished_sessions, unfinished_readings, is_allowed, is_within, may_follow, is_legal}
 use Rattle.history.specs.Need.{reclaims, erasable, is_live}
-use Rattle.history.specs.Sessions.{has, is_unfinished, retained}
+use Rattle.history.specs.Sessions.{has, is_unfinished}
 use Rattle.history_laws.proofs.Allowed.{step}
 use Rattle.history_laws.proofs.SessionLaws.{has_now}
 use Rattle.journal_file.specs.Adding.{with_entries}
@@ -46,9 +45,7 @@ use Rattle.store_core.specs.declared.fault.PointFault.{PointFault}
 use Rattle.store_core.specs.declared.fault.PointFault.TheVariants as point
 use Rattle.store_core.specs.View.{StateView, past_of, rules_of, made, Adds}
 use Rattle.store_core.specs.Answers.{reclaim_entry, ReclaimAnswer}
-use Rattle.depot.specs.declared.fault.RestoreFault.{RestoreFault}
 use Rattle.restore.specs.Copies.{Shelves}
-use Rattle.restore.specs.Restores.{StateCalls, RestoreAnswer}
 use Rattle.history_calls.specs.Tokens.{IdleView}
 use Rattle.session.specs.Backup.{HasRunAlone}
 use Rattle.stored_streams.specs.Streams.{Streams}
@@ -60,11 +57,6 @@ use Rattle.whole_objects.specs.Keeps.{IsNoObject, CommitsNothing}
 use Rattle.whole_objects.proofs.EntryLaws.{whole_behind}
 use Rattle.whole_objects.proofs.KeepLaws.{whole_kept}
 use Rattle.whole_objects.proofs.ReclaimLaws.{whole_without}
-use Rattle.restored_streams.specs.Complete.{NoneFailed, IsAnswered}
-use Rattle.restored_streams.specs.Restored.{HasRestored, ChunksCollide}
-use Rattle.restored_streams.proofs.AnsweredLaws.{answered_so}
-use Rattle.restored_streams.proofs.CallLaws.{answered_undamaged}
-use Rattle.restored_streams.proofs.StreamLaws.{IsKnown as Known}
 use Rattle.backed_up_streams.specs.OfInput.{IsOfInput}
 use Rattle.backed_up_streams.specs.WholeThen.{IsWholeThen}
 use Rattle.backed_up_streams.proofs.WholeBackupLaws.{whole-backup}
@@ -80,8 +72,7 @@ use Rattle.run_streams.specs.RunStreams.{HasFile, HasInput}
 use Rattle.run_streams.specs.WholeStores.{IsWholeStore, KeepsStore, KeepStore}
 use Rattle.run_streams.specs.WholeStores.KeepsStore.{job_done, only_read}
 use Rattle.run_streams.specs.WholeStores.KeepStore.{no_run, one_more}
-use Rattle.run_streams.proofs.OpenedLaws.{told_store, store_entries, entries_in}
-use Rattle.run_streams.proofs.RestoreLaws.{whole_given_back}
+use Rattle.run_streams.proofs.OpenedLaws.{told_store, entries_in}
 use Rattle.run_streams.proofs.PointLaws.{StoreNothing, restore_stores_nothing, delete_stores_nothing, stat_stores_nothing, reclaim_stores_nothing, entries_store_nothing}
 
 -- ---- entries that commit nothing
@@ -245,7 +236,7 @@ journal_more bytes store new is valid legal =
       limits = is.limits;
     }
 
-one_store : (bytes : List ℕ) (one other : StateView) → IsJournalOf bytes one → IsJournalOf bytes other → one ≡ other
+pub one_store : (bytes : List ℕ) (one other : StateView) → IsJournalOf bytes one → IsJournalOf bytes other → one ≡ other
 one_store bytes one other is is_too =
     let same = one_journal bytes one.profile other.profile one.entries other.entries is.journal is_too.journal in
     let profiles = same.0 in
@@ -363,10 +354,10 @@ kept_depot n sound streams rules past first depot after (entry ∷ new) legal en
           }),
     )
 
-kept_well : (before after : ShelfView) (entries : List Entry) (kept : Kept) → kept ≡ Ok tt → KeepAnswer before after entries kept → KeepAnswer before after entries (Ok tt)
+pub kept_well : (before after : ShelfView) (entries : List Entry) (kept : Kept) → kept ≡ Ok tt → KeepAnswer before after entries kept → KeepAnswer before after entries (Ok tt)
 kept_well before after entries kept is keeps = subst (KeepAnswer before after entries) is keeps
 
-past_valid : (older new : List Entry) → AllByRecursion IsEntry older → AllByRecursion IsEntry new → All IsEntry (reverse (older ++ new))
+pub past_valid : (older new : List Entry) → AllByRecursion IsEntry older → AllByRecursion IsEntry new → All IsEntry (reverse (older ++ new))
 past_valid older new valid valid_too =
     All-from_in IsEntry (reverse (older ++ new)) (λ entry there. entries_in (older ++ new) (all_valid older new valid valid_too) entry (reverse_in entry (older ++ new) there))
 
@@ -409,17 +400,6 @@ same_store streams depot one other is is_too =
     let objects : is_too.objects ≡ is.objects = ap (λ (h : Option Objects). unwrap_or h is.objects) (sym is_too.told ∙ is.told) in
     one_store (bytes_of is.objects journal_name) one other is.journal (subst (λ (o : Objects). IsJournalOf (bytes_of o journal_name) other) objects is_too.journal)
 
--- a restore from a whole store
-pub whole_restored : (streams : Streams) (store : StateView) (name output : List ℕ) (before after : Shelves) (sink sink' : SinkView) → HasDoneJob (Restore name output) before after sink sink' 0 → IsWholeStore streams before.depot store
-    → ((count : ℕ) × HasRestored streams (past_of store) name output before.files after.files count) ⊎ ChunksCollide (numbers_of store.profile) streams (past_of store)
-whole_restored streams store name output before after sink sink' done is =
-    let opened = told_store before.depot done.opened.depot done.store is.objects done.opens is.told in
-    let same : done.store ≡ store = one_store (bytes_of is.objects journal_name) done.store store opened.journal is.journal in
-    let was = subst (λ (s : StateView). IsOfStreams (numbers_of s.profile) streams (past_of s)) (sym same) is.of_streams in
-    let whole = subst (λ (s : StateView). IsWhole (numbers_of s.profile) streams (past_of s) is.objects) (sym same) is.whole in
-    subst (λ (s : StateView). ((count : ℕ) × HasRestored streams (past_of s) name output before.files after.files count) ⊎ ChunksCollide (numbers_of s.profile) streams (past_of s)) same
-    (whole_given_back streams is.objects name output before after sink sink' done is.told was whole)
-
 -- a store without entries
 pub first_store : (streams : Streams) (depot : ShelfView) (objects : Objects) (profile : Profile) → depot.held ≡ Some objects → bytes_of objects journal_name ≡ journal_text profile [] → IsWholeStore streams depot (store_of profile [])
 unfolding is_live is_unfinished has is_legal weight
@@ -431,21 +411,3 @@ first_store streams depot objects profile told text = record {
   of_streams = record { contents = record { contents = tt; complete = tt }; stored = record { stored = tt; ends = tt } };
   whole = record { manifests = λ id live. absurd (false≢true live); containers = λ id unfinished below. absurd (false≢true unfinished) };
 }
-
-pub restore_answered : (streams : Streams) (store : StateView) (files : Objects) (session : ℕ) (name output : List ℕ) (before after : Shelves) (sink sink' : SinkView) (status : ℕ) (done : HasDoneJob (Restore name output) before after sink sink' status) → IsWholeStore streams before.depot store
-    → retained name (past_of store) ≡ Some session → before.files.held ≡ Some files → contains_key files output ≡ false → NoneFailed done.opened done.done → IsAnswered done.store done.new done.job.result
-restore_answered streams store files session name output before after sink sink' status done is held told absent none_failed =
-    let opened = told_store before.depot done.opened.depot done.store is.objects done.opens is.told in
-    let same : done.store ≡ store = one_store (bytes_of is.objects journal_name) done.store store opened.journal is.journal in
-    let n = numbers_of done.store.profile in
-    let rules = rules_of 8 8 done.store in
-    let was = subst (λ (s : StateView). IsOfStreams (numbers_of s.profile) streams (past_of s)) (sym same) is.of_streams in
-    let whole = subst (λ (s : StateView). IsWhole (numbers_of s.profile) streams (past_of s) is.objects) (sym same) is.whole in
-    let known : Known n streams rules (past_of done.store) =
-    record { sound = AreSound-numbers_of done.store.profile; legal = opened.legal; entries = store_entries (bytes_of is.objects journal_name) done.store opened; of_streams = was } in
-    let files_told : done.opened.files.held ≡ Some files = ap (λ (f : ShelfView). f.held) done.files_same ∙ told in
-    answered_so done.store done.new done.author name session files output done.opened done.done done.job.result (subst (λ (s : StateView). retained name (past_of s) ≡ Some session) (sym same) held) done.job.done done.job.cause files_told absent none_failed
-    (λ fault failed.
-    answered_undamaged n streams rules is.objects done.store done.new done.author name output done.opened done.done fault known whole
-    (subst (λ (r : Result ℕ RestoreFault). RestoreAnswer (StateCalls done.store done.author name done.new) output done.opened done.done r) failed done.job.done)
-    (done.opens.only_reads.held ∙ is.told))

@@ -1,6 +1,6 @@
 // From what a run of a job did to the streams of its store.
 ghost use Rattle.std.specs.FinMap.{contains_key};
-ghost use Rattle.std.specs.Prelude.{ℕ, ◌≡◌, ◌⊎◌, false, [], ◌∷◌, List, Some};
+ghost use Rattle.std.specs.Prelude.{ℕ, ◌≡◌, ◌⊎◌, false, [], ◌∷◌, List, Some, Ok};
 ghost use Rattle.std.specs.List.{All};
 ghost use Rattle.ss_base.specs.declared.profile.Profile.{Profile};
 ghost use Rattle.ss_base.specs.Profile.{numbers_of};
@@ -21,9 +21,10 @@ ghost use Rattle.stored_streams.specs.Collision.{Collide};
 ghost use Rattle.restored_streams.specs.Complete.{NoneFailed, IsAnswered};
 ghost use Rattle.restored_streams.specs.Restored.{HasRestored, ChunksCollide};
 ghost use Rattle.job_script.specs.declared.job.JobKind.{JobKind};
-ghost use Rattle.job_script.specs.declared.job.JobKind.TheVariants.{Restore};
+ghost use Rattle.job_script.specs.declared.job.JobKind.TheVariants.{Backup, Restore};
 ghost use Rattle.store_run.specs.JobRun.{HasDoneJob};
 ghost use Rattle.store_run.specs.Opening.{store_of};
+ghost use Rattle.run_streams.specs.Answered.{IsNoFault};
 ghost use Rattle.run_streams.specs.RunStreams.{HasInput};
 ghost use Rattle.run_streams.specs.WholeStores.{IsWholeStore, KeepsStore, KeepStore};
 
@@ -99,4 +100,16 @@ pub fn restores_are_answered()
         → contains_key files output ≡ false
         → NoneFailed done.opened done.done
         → IsAnswered done.store done.new done.job.result }
+{}
+
+/// So is a backup, of a file that is told: from a whole store, where its entries were kept and no count of faults rose in
+/// the job, it tells of no fault and no damage. It runs nothing.
+pub fn backups_are_answered()
+    ensures { (streams : Streams) (store : StateView) (input name : List ℕ) (before after : Shelves) (sink sink' : SinkView) (status : ℕ)
+        → (done : HasDoneJob (Backup input name) before after sink sink' status)
+        → IsWholeStore streams before.depot store
+        → HasInput (Backup input name) streams before.files (past_of done.store) (past_of done.new)
+        → done.ending.kept ≡ Ok tt
+        → NoneFailed done.opened done.done
+        → IsNoFault done.job.result }
 {}

@@ -9,5 +9,6 @@ fn each_law_is_called(_rt: HostRuntime) -> Result<(), Fail> {
     stores_stay_whole();
     closed_by_a_run();
     restores_are_answered();
+    backups_are_answered();
     Ok(())
 }

@@ -1,5 +1,5 @@
 use Rattle.run_streams.proofs.RestoreLaws.{given_back}
-use Rattle.run_streams.proofs.WholeRunLaws.{whole_restored}
+use Rattle.run_streams.proofs.WholeAnswerLaws.{whole_restored}
 use Rattle.run_streams.proofs.laws.restored_by_a_run.Goals as goal
 
 pub returns-clause-read : goal.returns-clause-read

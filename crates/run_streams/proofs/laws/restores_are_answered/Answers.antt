@@ -1,4 +1,4 @@
-use Rattle.run_streams.proofs.WholeRunLaws.{restore_answered}
+use Rattle.run_streams.proofs.WholeAnswerLaws.{restore_answered}
 use Rattle.run_streams.proofs.laws.restores_are_answered.Goals as goal
 
 pub returns : goal.returns
