@@ -24,7 +24,7 @@ use Rattle.stored_streams.specs.Streams.{Streams}
 use Rattle.stored_streams.specs.OfStreams.{IsOfStreams}
 use Rattle.stored_streams.specs.Whole.{IsWhole}
 use Rattle.restored_streams.specs.Complete.{NoneFailed, IsAnswered}
-use Rattle.restored_streams.specs.Restored.{HasRestored, ChunksCollide}
+use Rattle.restored_streams.specs.Restored.{HasRestored, LeavesFront, TellsNoDamage as RestoreUndamaged, ChunksCollide}
 use Rattle.restored_streams.proofs.AnsweredLaws.{answered_so}
 use Rattle.restored_streams.proofs.CallLaws.{answered_undamaged}
 use Rattle.restored_streams.proofs.StreamLaws.{IsKnown as Known}
@@ -39,7 +39,7 @@ use Rattle.run_streams.specs.Answered.{IsNoFault}
 use Rattle.run_streams.specs.RunStreams.{HasFile}
 use Rattle.run_streams.specs.WholeStores.{IsWholeStore}
 use Rattle.run_streams.proofs.OpenedLaws.{told_store, store_entries}
-use Rattle.run_streams.proofs.RestoreLaws.{whole_given_back}
+use Rattle.run_streams.proofs.RestoreLaws.{whole_given_back, whole_front_left}
 use Rattle.run_streams.proofs.WholeRunLaws.{one_store, kept_well, past_valid}
 
 -- a restore from a whole store
@@ -51,7 +51,18 @@ whole_restored streams store name output before after sink sink' done is =
     let was = subst (λ (s : StateView). IsOfStreams (numbers_of s.profile) streams (past_of s)) (sym same) is.of_streams in
     let whole = subst (λ (s : StateView). IsWhole (numbers_of s.profile) streams (past_of s) is.objects) (sym same) is.whole in
     subst (λ (s : StateView). ((count : ℕ) × HasRestored streams (past_of s) name output before.files after.files count) ⊎ ChunksCollide (numbers_of s.profile) streams (past_of s)) same
-    (whole_given_back streams is.objects name output before after sink sink' done is.told was whole)
+    (whole_given_back streams is.objects name output before after sink sink' 0 done is.told was refl whole)
+
+-- or one that did not answer
+pub whole_front : (streams : Streams) (store : StateView) (name output : List ℕ) (before after : Shelves) (sink sink' : SinkView) (status : ℕ) (done : HasDoneJob (Restore name output) before after sink sink' status) → IsWholeStore streams before.depot store → (fault : RestoreFault) → done.job.result ≡ Err fault
+    → RestoreUndamaged fault × (LeavesFront streams (past_of store) name output before.files after.files ⊎ ChunksCollide (numbers_of store.profile) streams (past_of store))
+whole_front streams store name output before after sink sink' status done is fault failed =
+    let opened = told_store before.depot done.opened.depot done.store is.objects done.opens is.told in
+    let same : done.store ≡ store = one_store (bytes_of is.objects journal_name) done.store store opened.journal is.journal in
+    let was = subst (λ (s : StateView). IsOfStreams (numbers_of s.profile) streams (past_of s)) (sym same) is.of_streams in
+    let whole = subst (λ (s : StateView). IsWhole (numbers_of s.profile) streams (past_of s) is.objects) (sym same) is.whole in
+    subst (λ (s : StateView). RestoreUndamaged fault × (LeavesFront streams (past_of s) name output before.files after.files ⊎ ChunksCollide (numbers_of s.profile) streams (past_of s))) same
+    (whole_front_left streams is.objects name output before after sink sink' status done is.told was fault failed whole)
 
 -- a restore that nothing keeps off
 pub restore_answered : (streams : Streams) (store : StateView) (files : Objects) (session : ℕ) (name output : List ℕ) (before after : Shelves) (sink sink' : SinkView) (status : ℕ) (done : HasDoneJob (Restore name output) before after sink sink' status) → IsWholeStore streams before.depot store

@@ -1,6 +1,6 @@
 // From what a run of a job did to the streams of its store.
 ghost use Rattle.std.specs.FinMap.{contains_key};
-ghost use Rattle.std.specs.Prelude.{ℕ, ◌≡◌, ◌⊎◌, false, [], ◌∷◌, List, Some, Ok};
+ghost use Rattle.std.specs.Prelude.{ℕ, ◌≡◌, ◌⊎◌, false, [], ◌∷◌, List, Some, Ok, Err};
 ghost use Rattle.std.specs.List.{All};
 ghost use Rattle.ss_base.specs.declared.profile.Profile.{Profile};
 ghost use Rattle.ss_base.specs.Profile.{numbers_of};
@@ -11,6 +11,7 @@ ghost use Rattle.journal_file.specs.Header.{journal_name};
 ghost use Rattle.journal_file.specs.Journal.{journal_text};
 ghost use Rattle.store_core.specs.Replay.{NoneIs, has_session, has_reading};
 ghost use Rattle.store_core.specs.View.{StateView, past_of};
+ghost use Rattle.depot.specs.declared.fault.RestoreFault.{RestoreFault};
 ghost use Rattle.history.specs.Sessions.{retained};
 ghost use Rattle.restore.specs.Copies.{Shelves};
 ghost use Rattle.stored_streams.specs.Streams.{Streams};
@@ -19,7 +20,7 @@ ghost use Rattle.stored_streams.specs.Reads.{IsGiven};
 ghost use Rattle.stored_streams.specs.Reads.Reads.{held};
 ghost use Rattle.stored_streams.specs.Collision.{Collide};
 ghost use Rattle.restored_streams.specs.Complete.{NoneFailed, IsAnswered};
-ghost use Rattle.restored_streams.specs.Restored.{HasRestored, ChunksCollide};
+ghost use Rattle.restored_streams.specs.Restored.{HasRestored, LeavesFront, TellsNoDamage, ChunksCollide};
 ghost use Rattle.job_script.specs.declared.job.JobKind.{JobKind};
 ghost use Rattle.job_script.specs.declared.job.JobKind.TheVariants.{Backup, Restore};
 ghost use Rattle.store_run.specs.JobRun.{HasDoneJob};
@@ -44,6 +45,24 @@ pub fn restored_by_a_run()
         → IsWholeStore streams before.depot store
         → ((count : ℕ) × HasRestored streams (past_of store) name output before.files after.files count)
         ⊎ ChunksCollide (numbers_of store.profile) streams (past_of store) }
+{}
+
+/// A restore that did not answer leaves no output, an output that could not be made, or a front of the stream, and no other
+/// file changes; but for the same exceptions. From a whole store it tells of no damage. It runs nothing.
+pub fn fronts_by_a_run()
+    ensures read { (streams : Streams) (objects : Objects) (name output : List ℕ) (before after : Shelves) (sink sink' : SinkView) (status : ℕ) (fault : RestoreFault)
+        → (done : HasDoneJob (Restore name output) before after sink sink' status)
+        → done.job.result ≡ Err fault
+        → before.depot.held ≡ Some objects
+        → IsOfStreams (numbers_of done.store.profile) streams (past_of done.store)
+        → LeavesFront streams (past_of done.store) name output before.files after.files
+        ⊎ Collide (numbers_of done.store.profile) streams (past_of done.store) (IsGiven (held objects ∷ []) (past_of done.store)) }
+    ensures whole { (streams : Streams) (store : StateView) (name output : List ℕ) (before after : Shelves) (sink sink' : SinkView) (status : ℕ) (fault : RestoreFault)
+        → (done : HasDoneJob (Restore name output) before after sink sink' status)
+        → done.job.result ≡ Err fault
+        → IsWholeStore streams before.depot store
+        → TellsNoDamage fault
+        × (LeavesFront streams (past_of store) name output before.files after.files ⊎ ChunksCollide (numbers_of store.profile) streams (past_of store)) }
 {}
 
 /// A run of any job leaves the history of its store one of the streams, or two different byte lists among those that were
