@@ -16,3 +16,4 @@ pub mod HeldBackupLaws
 pub mod CollisionLaws
 pub mod WholeLaws
 pub mod WholeBackupLaws
+pub mod DamageLaws

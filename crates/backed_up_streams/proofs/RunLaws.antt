@@ -52,7 +52,7 @@ module _ (standings champions : ℕ) (files : ShelfView) (input name : List ℕ)
     numbers_same : numbers_of started.caller.seen.profile ≡ the_numbers
     numbers_same = is_n standings champions files input name before streams objects told started
 
-    start : StandsSo the_numbers streams the_older before.author the_session Told Allowed telling standings champions 0 (at_start started.caller depot)
+    pub start : StandsSo the_numbers streams the_older before.author the_session Told Allowed telling standings champions 0 (at_start started.caller depot)
     start = record {
       same_author = started.begun.author;
       same_session = refl;
@@ -67,7 +67,7 @@ module _ (standings champions : ℕ) (files : ShelfView) (input name : List ℕ)
     whole_of : (segments : List (List (List ℕ))) → segments_of the_numbers (bytes_of objects input) ≡ segments → segments_of the_numbers (streams the_session) ≡ segments
     whole_of segments are = ap (segments_of the_numbers) stream_is ∙ are
 
-    front_of : (work : WorkState) (last : SourceView) (segments : List (List (List ℕ))) → HasSplit (numbers_of started.caller.seen.profile) (input_view files input) last work segments
+    pub front_of : (work : WorkState) (last : SourceView) (segments : List (List (List ℕ))) → HasSplit (numbers_of started.caller.seen.profile) (input_view files input) last work segments
         → (rest : List (List (List ℕ))) × (segments_of the_numbers (streams the_session) ≡ segments ++ rest)
     front_of work last segments split =
         let front = input-front the_numbers files input objects last told work segments (subst (λ (m : Numbers). HasSplit m (input_view files input) last work segments) numbers_same split) in

@@ -56,16 +56,16 @@ module _ (n : Numbers) (streams : Streams) (older : List Entry) (author session 
     pub so : So count (past_of reached.caller.seen) reached.progress.shelf reached.progress.end
 
   -- and behind a choice
-  record WaitsSo (count : ℕ) (chosen : ChosenView) (progress : Progress) : Type 0 where
-    same_author : chosen.author ≡ author
-    same_session : chosen.session ≡ session
-    same_numbers : numbers_of chosen.seen.profile ≡ n
-    so : So count (past_of chosen.seen) progress.shelf progress.end
-    ids : List ManifestId
-    pending_are : pending_champions session (past_of chosen.seen) ≡ ids
-    waits : is_pending session (past_of chosen.seen) ≡ true
-    kept : chosen.choice.champions.items ≡ all_kept ids (past_of chosen.seen)
-    manifest : chosen.choice.manifest ≡ record { session = session; seq = count }
+  pub record WaitsSo (count : ℕ) (chosen : ChosenView) (progress : Progress) : Type 0 where
+    pub same_author : chosen.author ≡ author
+    pub same_session : chosen.session ≡ session
+    pub same_numbers : numbers_of chosen.seen.profile ≡ n
+    pub so : So count (past_of chosen.seen) progress.shelf progress.end
+    pub ids : List ManifestId
+    pub pending_are : pending_champions session (past_of chosen.seen) ≡ ids
+    pub waits : is_pending session (past_of chosen.seen) ≡ true
+    pub kept : chosen.choice.champions.items ≡ all_kept ids (past_of chosen.seen)
+    pub manifest : chosen.choice.manifest ≡ record { session = session; seq = count }
 
   counted_past : (count : ℕ) (past : List Entry) (shelf : ShelfView) (end : ContainerEnd) → So count past shelf end → commits_of session past ≡ count
   counted_past count past shelf end so = ap (commits_of session) so.past_is ∙ so.counted
@@ -236,7 +236,7 @@ module _ (n : Numbers) (streams : Streams) (older : List Entry) (author session 
     abbrev wanted : List Name
     wanted = hooks (numbers_of seen.profile).bits (pieces chunks)
 
-    waits_so : (chosen : ChosenView) → HasChosen alone standings champions before.caller wanted chosen → WaitsSo (length front) chosen before.progress
+    pub waits_so : (chosen : ChosenView) → HasChosen alone standings champions before.caller wanted chosen → WaitsSo (length front) chosen before.progress
     waits_so chosen chooses =
         choice-so (length front) wanted seen before.progress chosen at.same_numbers at.so
         (subst (λ (t : OpenView). HasChosen alone standings champions t wanted chosen) caller_at chooses)

@@ -286,13 +286,13 @@ module _ (standings champions : ℕ) (files : ShelfView) (input name : List ℕ)
     abbrev begin_it : Entry
     begin_it = made before.author (Begin name (Some the_session))
 
-    abbrev ToldIs : List (List ℕ) → List Entry → List Planned → ShelfView → Type 0
+    abbrev pub ToldIs : List (List ℕ) → List Entry → List Planned → ShelfView → Type 0
     ToldIs = WholeSo numbers sound_numbers rules streams the_past before.author the_session stored
 
-    abbrev AllowedIs : List Entry → Type 0
+    abbrev pub AllowedIs : List Entry → Type 0
     AllowedIs = IsAllowed numbers sound_numbers rules streams the_past before.author the_session stored
 
-    abbrev tells : IsTelling numbers streams the_past before.author the_session ToldIs AllowedIs
+    pub tells : IsTelling numbers streams the_past before.author the_session ToldIs AllowedIs
     tells =
         is_whole_telling numbers sound_numbers rules streams the_past before.author the_session stored no_commits keep
         (λ id content text chunks bytes fresh fresh_bytes uses past held legal entries of_streams whole text_there records. whole_committed numbers streams rules before.author id content text chunks bytes fresh fresh_bytes uses past held sound_numbers legal entries of_streams whole text_there records)
@@ -313,7 +313,7 @@ module _ (standings champions : ℕ) (files : ShelfView) (input name : List ℕ)
       others = λ other_name none. refl;
     }
 
-    at_first : ToldIs [] (begin_it ∷ []) (plans_of numbers streams the_past) depot
+    pub at_first : ToldIs [] (begin_it ∷ []) (plans_of numbers streams the_past) depot
     at_first = record { no_texts = refl; now = stored; held_is = depot_told; facts = first_facts }
 
     run-whole : (after : IdleView) (depot' : ShelfView) → HasEnded numbers streams the_past before.author the_session ToldIs AllowedIs tells (past_of after.seen) depot' → AllowedIs (past_of after.seen) → IsWholeThen numbers streams (past_of after.seen) stored depot'

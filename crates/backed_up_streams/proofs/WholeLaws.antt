@@ -102,26 +102,33 @@ module _ (n : Numbers) (sound : AreSound n) (rules : Rules) (streams : Streams) 
   read_was : (shelf : ShelfView) (now : Objects) (name text : List ℕ) (max : ℕ) → shelf.held ≡ Some now → IfSome shelf.held (λ (o : Objects). text ≡ part_of (bytes_of o name) 0 max) → text ≡ part_of (bytes_of now name) 0 max
   read_was shelf now name text max is told = subst (λ (held : Option Objects). IfSome held (λ (o : Objects). text ≡ part_of (bytes_of o name) 0 max)) is told
 
-  planned_text : (past : List Entry) (id : ManifestId) (plans : List Planned) → plans ≡ plans_of n streams past → text_of n streams id past ≡ manifest_text (manifest_pieces n streams id) (planned_places id plans)
+  pub planned_text : (past : List Entry) (id : ManifestId) (plans : List Planned) → plans ≡ plans_of n streams past → text_of n streams id past ≡ manifest_text (manifest_pieces n streams id) (planned_places id plans)
   unfolding text_of
   planned_text past id plans same = ap (λ (ps : List Planned). manifest_text (manifest_pieces n streams id) (planned_places id ps)) (sym same)
 
-  loaded_planned : (past : List Entry) (plans : List Planned) (now : Objects) (shelf : ShelfView) (view : KeptView) (manifest : Manifest)
-      → IsAllowed past → Facts past plans now → is_live view.id past ≡ true → kept view.id past ≡ Some view → shelf.held ≡ Some now → IsLoaded shelf (after_load shelf view manifest) view manifest
-      → text_loaded manifest ≡ manifest_text (manifest_pieces n streams view.id) (planned_places view.id plans)
-  loaded_planned past plans now shelf view manifest allowed facts live kept_is held loaded =
+  -- what a read of a live manifest's object gave
+  pub given_planned : (past : List Entry) (plans : List Planned) (now : Objects) (shelf : ShelfView) (view : KeptView) (text : List ℕ)
+      → IsAllowed past → Facts past plans now → is_live view.id past ≡ true → kept view.id past ≡ Some view → shelf.held ≡ Some now
+      → IfSome shelf.held (λ (o : Objects). text ≡ part_of (bytes_of o (manifest_name view.id)) 0 (48 * view.chunks))
+      → text ≡ text_of n streams view.id past
+  given_planned past plans now shelf view text allowed facts live kept_is held told =
       let id = view.id in
       let committed = live_committed id past live in
       let contents = facts.of_streams.contents.contents in
       let is = committed_kept n streams rules past id sound allowed.legal allowed.entries contents facts.of_streams.stored.stored committed in
       let long = length-manifest_text (manifest_pieces n streams id) (planned_places id (plans_of n streams past)) (committed_manifest n streams past id sound is) in
-      let text = planned_text past id (plans_of n streams past) refl in
       let count = kept_counts n streams past id view contents committed kept_is in
-      let size : length (text_of n streams id past) ≡ 48 * length (manifest_pieces n streams id) = ap length text ∙ long in
-      read_was shelf now (manifest_name id) (text_loaded manifest) (48 * view.chunks) held loaded.given.told
+      let size : length (text_of n streams id past) ≡ 48 * length (manifest_pieces n streams id) = ap length (planned_text past id (plans_of n streams past) refl) ∙ long in
+      read_was shelf now (manifest_name id) text (48 * view.chunks) held told
       ∙ ap (λ (bytes : List ℕ). part_of bytes 0 (48 * view.chunks)) ((facts.whole.manifests id live).text)
       ∙ take_all (48 * view.chunks) (text_of n streams id past) (omega (arith, size, count))
-      ∙ planned_text past id plans facts.planned
+
+  loaded_planned : (past : List Entry) (plans : List Planned) (now : Objects) (shelf : ShelfView) (view : KeptView) (manifest : Manifest)
+      → IsAllowed past → Facts past plans now → is_live view.id past ≡ true → kept view.id past ≡ Some view → shelf.held ≡ Some now → IsLoaded shelf (after_load shelf view manifest) view manifest
+      → text_loaded manifest ≡ manifest_text (manifest_pieces n streams view.id) (planned_places view.id plans)
+  loaded_planned past plans now shelf view manifest allowed facts live kept_is held loaded =
+      given_planned past plans now shelf view (text_loaded manifest) allowed facts live kept_is held loaded.given.told
+      ∙ planned_text past view.id plans facts.planned
 
   load_whole : (texts : List (List ℕ)) (newer : List Entry) (plans : List Planned) (shelf : ShelfView) (view : KeptView) (manifest : Manifest)
       → is_live view.id (newer ++ older) ≡ true → kept view.id (newer ++ older) ≡ Some view → IsLoaded shelf (after_load shelf view manifest) view manifest

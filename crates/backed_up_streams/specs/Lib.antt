@@ -5,3 +5,4 @@ pub use Rattle.stored_streams.specs.Collision
 pub mod OfInput
 pub mod Loaded
 pub mod WholeThen
+pub mod NoDamage

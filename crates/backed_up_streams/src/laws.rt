@@ -1,5 +1,5 @@
 // From what a backup says of itself to what its history stores.
-ghost use Rattle.std.specs.Prelude.{ℕ, ◌≡◌, ◌⊎◌, true, List, [], ◌∷◌, ◌++◌, Some, Result};
+ghost use Rattle.std.specs.Prelude.{ℕ, ◌≡◌, ◌⊎◌, true, List, [], ◌∷◌, ◌++◌, Some, Result, Err};
 ghost use Rattle.std.specs.List.{All};
 ghost use Rattle.ss_base.specs.declared.profile.Numbers.{Numbers};
 ghost use Rattle.ss_base.specs.Profile.{numbers_of};
@@ -22,6 +22,7 @@ ghost use Rattle.stored_streams.specs.Whole.{IsWhole};
 ghost use Rattle.backed_up_streams.specs.OfInput.{IsOfInput};
 ghost use Rattle.backed_up_streams.specs.Loaded.{HasLoaded, ReadsMore};
 ghost use Rattle.backed_up_streams.specs.WholeThen.{IsWholeThen};
+ghost use Rattle.backed_up_streams.specs.NoDamage.{TellsNoDamage};
 
 /// A backup by a caller alone, whatever it answers, where its input's shelf tells its objects and the stream of the
 /// session that it began, if any, is the input's bytes: behind a history whose choices and commits are those of its
@@ -93,6 +94,21 @@ pub fn whole_of_a_backup()
         → IsOfStreams (numbers_of before.seen.profile) streams (past_of before.seen)
         → IsWhole (numbers_of before.seen.profile) streams (past_of before.seen) stored
         → IsWholeThen (numbers_of before.seen.profile) streams (past_of after.seen) stored depot' }
+{}
+
+/// Over a depot that is whole for a history of the streams no such backup fails for damage: no champion's manifest has
+/// another digest than was kept, or is unlike what was kept. It runs nothing.
+pub fn whole_depots_show_no_damage()
+    ensures { (streams : Streams) (objects stored : Objects) (rules : Rules) (standings champions : ℕ) (files : ShelfView) (input name : List ℕ) (before : IdleView) (depot : ShelfView) (after : IdleView) (depot' : ShelfView) (fault : BackupFault)
+        → BackupAnswer (λ came. came ≡ []) standings champions files input name before depot after depot' (Err fault)
+        → files.held ≡ Some objects
+        → depot.held ≡ Some stored
+        → IsOfInput streams (past_of before.seen) (past_of after.seen) (bytes_of objects input)
+        → is_legal rules (past_of after.seen) ≡ true
+        → All IsEntry (past_of after.seen)
+        → IsOfStreams (numbers_of before.seen.profile) streams (past_of before.seen)
+        → IsWhole (numbers_of before.seen.profile) streams (past_of before.seen) stored
+        → TellsNoDamage fault }
 {}
 
 /// A collision stays one while a legal history goes on, and beside the reads of more handles. It runs nothing.

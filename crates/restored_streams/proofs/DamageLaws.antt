@@ -1,35 +1,25 @@
 -- Whole objects show no damage.
-use Rattle.std.proofs.Common.{◌≡◌, ℕ, zero, suc, ◌*◌, true, false, List, [], ◌∷◌, length, slice_get, map, Some, refl, sym, ap, ◌∙◌, subst, inl, inr}
+use Rattle.std.proofs.Common.{◌≡◌, ℕ, zero, suc, ◌*◌, true, List, [], ◌∷◌, length, slice_get, map, Some, refl, sym, ap, ◌∙◌, subst, inl, inr}
 use Rattle.std.specs.Prelude.{Err}
 use Rattle.std.specs.List.{zip}
-use Rattle.std.proofs.lemmas.Bool.{false≢true, both_ways, cases_Bool}
 use Rattle.std.proofs.lemmas.List.{length-map}
-use Rattle.ss_base.specs.declared.ids.ContainerId.{ContainerId}
 use Rattle.ss_base.specs.declared.ids.ManifestId.{ManifestId}
 use Rattle.ss_base.specs.declared.ids.Place.{Place}
-use Rattle.ss_base.specs.declared.name.Name.{Name}
 use Rattle.ss_base.specs.declared.name.Piece.{Piece}
 use Rattle.ss_base.specs.declared.object.Object.TheVariants.{Container, Manifest as ManifestObject}
 use Rattle.ss_base.specs.declared.profile.Numbers.{Numbers}
 use Rattle.ss_base.specs.ObjectName.{object_text}
 use Rattle.ss_base.proofs.MemberLaws.{In, in_append_right}
-use Rattle.ss_base.proofs.IdLaws.{same_manifest-true}
 use Rattle.chunk_name.specs.Pieces.{name_of_bytes}
 use Rattle.manifest_codec.specs.declared.manifest.Manifest.{Manifest}
-use Rattle.manifest_codec.specs.PiecesPart.{pieces_part}
 use Rattle.manifest_codec.specs.Text.{manifest_text}
-use Rattle.manifest_codec.specs.Containers.{AreContainers}
 use Rattle.manifest_codec.proofs.TextLaws as text
 use Rattle.journal_entry.specs.declared.entry.Entry.{Entry}
-use Rattle.journal_entry.specs.declared.entry.Point.{Point}
-use Rattle.journal_entry.specs.declared.entry.Point.TheVariants.{Commit}
 use Rattle.history.specs.declared.rules.Rules.{Rules}
-use Rattle.history.specs.Sessions.{has, is_retained}
-use Rattle.history.specs.Need.{commits_manifest}
-use Rattle.history_laws.proofs.SessionLaws.{has_none, has_cases}
+use Rattle.history.specs.Sessions.{is_retained}
 use Rattle.store_core.specs.declared.fault.NameFault.{NameFault}
 use Rattle.store_core.specs.declared.fault.NameFault.TheVariants as name
-use Rattle.store_core.specs.View.{KeptView, kept, kept_by, stream_kept}
+use Rattle.store_core.specs.View.{KeptView, stream_kept}
 use Rattle.outside.specs.Shelf.{Objects}
 use Rattle.outside.specs.Views.{ShelfView}
 use Rattle.outside.specs.declared.trouble.Trouble.{Trouble}
@@ -42,11 +32,9 @@ use Rattle.depot.specs.declared.fault.RestoreFault.{RestoreFault}
 use Rattle.depot.specs.Chunks.{ChunkAnswer}
 use Rattle.depot.specs.Loading.{IsLike, IsLoaded, LoadAnswer}
 use Rattle.stored_streams.specs.Streams.{Streams, manifest_pieces}
-use Rattle.stored_streams.specs.Plans.{planned_places, plan_for, next_plan, plans_after, plans_of, text_of as planned_text}
-use Rattle.stored_streams.specs.OfStreams.{ContentOf, StoredOf, EachEntry}
+use Rattle.stored_streams.specs.Plans.{planned_places, plans_of, text_of as planned_text}
 use Rattle.stored_streams.specs.Whole.{IsManifestWhole, IsWhole}
-use Rattle.stored_streams.proofs.CommittedLaws.{committed_kept, committed_manifest, kept_here, kept_older, kept_counts}
-use Rattle.stored_streams.proofs.PlanLaws.{places_newest, places_stay}
+use Rattle.stored_streams.proofs.CommittedLaws.{committed_kept, committed_manifest, kept_counts, kept_stored}
 use Rattle.restore.specs.Faults.{output_fault, look_fault, load_fault, chunk_fault}
 use Rattle.restore.specs.Reads.{Listed, listed_by, ChunkRead, ManifestRead, after_load, chunk_at, text_at, text_of}
 use Rattle.restore.specs.Copies.{Shelves, StopsAtChunk, StopsAtManifest, StreamCopy}
@@ -60,47 +48,7 @@ use Rattle.restored_streams.proofs.StreamLaws.{IsKnown, text_planned}
 use Rattle.restored_streams.proofs.WholeLaws.{retained_live, text_at_planned}
 use Rattle.restored_streams.proofs.FrontLaws.{get_next}
 
--- ---- what was kept is like what was planned
-
-record IsStored (n : Numbers) (streams : Streams) (past : List Entry) (id : ManifestId) (view : KeptView) : Type 0 where
-  content : view.content ≡ name_of_bytes (pieces_part (manifest_pieces n streams id))
-  uses : AreContainers (planned_places id (plans_of n streams past)) view.uses
-
-stored_commit : (n : Numbers) (streams : Streams) (past : List Entry) (author : ℕ) (id : ManifestId) (content text : Name) (chunks bytes fresh fresh_bytes : ℕ) (uses : List ContainerId) → ContentOf n streams past (Commit id content text chunks bytes fresh fresh_bytes uses) → StoredOf n streams past (Commit id content text chunks bytes fresh fresh_bytes uses)
-    → IsStored n streams (record { author = author; point = Commit id content text chunks bytes fresh fresh_bytes uses } ∷ past) id (record { id = id; text = text; content = content; chunks = chunks; uses = uses })
-unfolding plans_of plans_after next_plan plan_for
-stored_commit n streams past author id content text chunks bytes fresh fresh_bytes uses holds stored =
-    let plans = plans_of n streams past in
-    let plan = next_plan n streams past id plans in
-    let places : planned_places id (plan ∷ plans) ≡ plan.places = places_newest id plan plans refl in
-    record { content = holds.digest; uses = subst (λ (ps : List Place). AreContainers ps uses) (sym places) stored.containers }
-
-stored_here : (n : Numbers) (streams : Streams) (past : List Entry) (author : ℕ) (id : ManifestId) (view : KeptView) (point : Point) → commits_manifest id point ≡ true → ContentOf n streams past point → StoredOf n streams past point → kept_by point ≡ Some view → IsStored n streams (record { author = author; point = point } ∷ past) id view
-unfolding commits_manifest kept_by
-stored_here n streams past author id view (Commit other content text chunks bytes fresh fresh_bytes uses) does holds stored is =
-    let at : KeptView = record { id = other; text = text; content = content; chunks = chunks; uses = uses } in
-    let same : at ≡ view = cc in
-    let past' = record { author = author; point = Commit other content text chunks bytes fresh fresh_bytes uses } ∷ past in
-    subst (IsStored n streams past' id) same
-    (subst (λ (i : ManifestId). IsStored n streams past' i at) (sym (same_manifest-true id other does))
-    (stored_commit n streams past author other content text chunks bytes fresh fresh_bytes uses holds stored))
-stored_here n streams past author id view _ does holds stored is = absurd (false≢true does)
-
-stored_before : (n : Numbers) (streams : Streams) (entry : Entry) (past : List Entry) (id : ManifestId) (view : KeptView) → commits_manifest id entry.point ≡ false → IsStored n streams past id view → IsStored n streams (entry ∷ past) id view
-unfolding plans_of
-stored_before n streams entry past id view other older =
-    let stay : planned_places id (plans_of n streams (entry ∷ past)) ≡ planned_places id (plans_of n streams past) = places_stay n streams past id entry.point (plans_of n streams past) other in
-    record { content = older.content; uses = subst (λ (ps : List Place). AreContainers ps view.uses) (sym stay) older.uses }
-
-kept_stored : (n : Numbers) (streams : Streams) (past : List Entry) (id : ManifestId) (view : KeptView) → EachEntry (ContentOf n streams) past → EachEntry (StoredOf n streams) past → has (commits_manifest id) past ≡ true → kept id past ≡ Some view → IsStored n streams past id view
-kept_stored n streams [] id view contents stored committed is = absurd (both_ways _ (has_none (commits_manifest id)) committed)
-kept_stored n streams (entry ∷ past) id view contents stored committed is = elim (cases_Bool (commits_manifest id entry.point)) [
-  | inl here ↦ stored_here n streams past entry.author id view entry.point here contents.1 stored.1 (sym (kept_here id entry past here) ∙ is)
-  | inr other ↦ elim (has_cases (commits_manifest id) entry past committed) [
-    | inl here ↦ absurd (both_ways _ other here)
-    | inr older ↦ stored_before n streams entry past id view other (kept_stored n streams past id view contents.0 stored.0 older (sym (kept_older id entry past other) ∙ is))
-  ]
-]
+-- ---- the planned text
 
 planned_is : (n : Numbers) (streams : Streams) (past : List Entry) (id : ManifestId) → planned_text n streams id past ≡ manifest_text (manifest_pieces n streams id) (planned_places id (plans_of n streams past))
 unfolding planned_text

@@ -4,3 +4,5 @@ pub mod RestoreLaws
 pub mod PointLaws
 pub mod RunLaws
 pub mod WholeRunLaws
+pub mod ClosedLaws
+pub mod WholeAnswerLaws

@@ -1,11 +1,11 @@
 -- A run leaves a whole store whole.
-use Rattle.std.proofs.Common.{◌≡◌, ◌⊎◌, ℕ, ◌+◌, ◌≤◌, Bool, true, List, [], ◌∷◌, ◌++◌, length, reverse, map, take, Option, Some, None, refl, sym, ap, ◌∙◌, subst, inl, inr, arith, append-nil, append_assoc, leb, leb-true}
+use Rattle.std.proofs.Common.{◌≡◌, ℕ, ◌+◌, ◌≤◌, Bool, true, List, [], ◌∷◌, ◌++◌, length, reverse, map, take, Option, Some, None, refl, sym, ap, ◌∙◌, subst, inl, inr, arith, append-nil, append_assoc, leb, leb-true}
 use Rattle.std.specs.Prelude.{Ok, Err, Vec}
 use Rattle.std.specs.FinMap as map_of
 use Rattle.std.specs.Option.{unwrap_or}
 use Rattle.std.specs.List.{All, AllByRecursion}
 use Rattle.std.specs.declared.alloc.Global.{Global}
-use Rattle.std.proofs.lemmas.Bool.{and_parts}
+use Rattle.std.proofs.lemmas.Bool.{false≢true, and_parts}
 use Rattle.std.proofs.lemmas.List.{reverse-append, length-reverse}
 use Rattle.std.proofs.lemmas.Grind.{flat_map-append}
 use Rattle.std.proofs.lemmas.List.Elements.{All-nil, All-cons, All-tail}
@@ -33,12 +33,13 @@ use Rattle.journal_entry.specs.Weight.{point_weight, weight}
 use Rattle.history.specs.declared.rules.Limits.{Limits}
 use Rattle.history.specs.declared.rules.Rules.{Rules}
 use Rattle.history.specs.Legal.{unfinished_sessions, unfinished_readings, is_allowed, is_within, may_follow, is_legal}
-use Rattle.history.specs.Need.{reclaims, erasable}
-use Rattle.history.specs.Sessions.{has}
+use Rattle.history.specs.Need.{reclaims, erasable, is_live}
+use Rattle.history.specs.Sessions.{has, is_unfinished}
 use Rattle.history_laws.proofs.Allowed.{step}
 use Rattle.history_laws.proofs.SessionLaws.{has_now}
 use Rattle.journal_file.specs.Adding.{with_entries}
 use Rattle.journal_file.specs.Header.{journal_name, header_text}
+use Rattle.journal_file.specs.Journal.{journal_text}
 use Rattle.journal_file.proofs.AnswerLaws.{one_journal}
 use Rattle.store_core.specs.declared.fault.PointFault.{PointFault}
 use Rattle.store_core.specs.declared.fault.PointFault.TheVariants as point
@@ -56,7 +57,6 @@ use Rattle.whole_objects.specs.Keeps.{IsNoObject, CommitsNothing}
 use Rattle.whole_objects.proofs.EntryLaws.{whole_behind}
 use Rattle.whole_objects.proofs.KeepLaws.{whole_kept}
 use Rattle.whole_objects.proofs.ReclaimLaws.{whole_without}
-use Rattle.restored_streams.specs.Restored.{HasRestored, ChunksCollide}
 use Rattle.backed_up_streams.specs.OfInput.{IsOfInput}
 use Rattle.backed_up_streams.specs.WholeThen.{IsWholeThen}
 use Rattle.backed_up_streams.proofs.WholeBackupLaws.{whole-backup}
@@ -67,13 +67,12 @@ use Rattle.job_run.specs.Erasing.{IsErased, AreErased, HasReclaimed, LastReclaim
 use Rattle.job_run.specs.Erasing.HasReclaimed.{none, more}
 use Rattle.job_run.specs.Erasing.LastReclaim.{few, troubled, unmade}
 use Rattle.store_run.specs.JobRun.{Kept, KeepAnswer, HasDoneJob}
-use Rattle.store_run.specs.Opening.{IsLegal, IsJournalOf}
+use Rattle.store_run.specs.Opening.{store_of, IsLegal, IsJournalOf}
 use Rattle.run_streams.specs.RunStreams.{HasFile, HasInput}
 use Rattle.run_streams.specs.WholeStores.{IsWholeStore, KeepsStore, KeepStore}
 use Rattle.run_streams.specs.WholeStores.KeepsStore.{job_done, only_read}
 use Rattle.run_streams.specs.WholeStores.KeepStore.{no_run, one_more}
 use Rattle.run_streams.proofs.OpenedLaws.{told_store, entries_in}
-use Rattle.run_streams.proofs.RestoreLaws.{whole_given_back}
 use Rattle.run_streams.proofs.PointLaws.{StoreNothing, restore_stores_nothing, delete_stores_nothing, stat_stores_nothing, reclaim_stores_nothing, entries_store_nothing}
 
 -- ---- entries that commit nothing
@@ -237,7 +236,7 @@ journal_more bytes store new is valid legal =
       limits = is.limits;
     }
 
-one_store : (bytes : List ℕ) (one other : StateView) → IsJournalOf bytes one → IsJournalOf bytes other → one ≡ other
+pub one_store : (bytes : List ℕ) (one other : StateView) → IsJournalOf bytes one → IsJournalOf bytes other → one ≡ other
 one_store bytes one other is is_too =
     let same = one_journal bytes one.profile other.profile one.entries other.entries is.journal is_too.journal in
     let profiles = same.0 in
@@ -355,10 +354,10 @@ kept_depot n sound streams rules past first depot after (entry ∷ new) legal en
           }),
     )
 
-kept_well : (before after : ShelfView) (entries : List Entry) (kept : Kept) → kept ≡ Ok tt → KeepAnswer before after entries kept → KeepAnswer before after entries (Ok tt)
+pub kept_well : (before after : ShelfView) (entries : List Entry) (kept : Kept) → kept ≡ Ok tt → KeepAnswer before after entries kept → KeepAnswer before after entries (Ok tt)
 kept_well before after entries kept is keeps = subst (KeepAnswer before after entries) is keeps
 
-past_valid : (older new : List Entry) → AllByRecursion IsEntry older → AllByRecursion IsEntry new → All IsEntry (reverse (older ++ new))
+pub past_valid : (older new : List Entry) → AllByRecursion IsEntry older → AllByRecursion IsEntry new → All IsEntry (reverse (older ++ new))
 past_valid older new valid valid_too =
     All-from_in IsEntry (reverse (older ++ new)) (λ entry there. entries_in (older ++ new) (all_valid older new valid valid_too) entry (reverse_in entry (older ++ new) there))
 
@@ -401,13 +400,14 @@ same_store streams depot one other is is_too =
     let objects : is_too.objects ≡ is.objects = ap (λ (h : Option Objects). unwrap_or h is.objects) (sym is_too.told ∙ is.told) in
     one_store (bytes_of is.objects journal_name) one other is.journal (subst (λ (o : Objects). IsJournalOf (bytes_of o journal_name) other) objects is_too.journal)
 
--- a restore from a whole store
-pub whole_restored : (streams : Streams) (store : StateView) (name output : List ℕ) (before after : Shelves) (sink sink' : SinkView) → HasDoneJob (Restore name output) before after sink sink' 0 → IsWholeStore streams before.depot store
-    → ((count : ℕ) × HasRestored streams (past_of store) name output before.files after.files count) ⊎ ChunksCollide (numbers_of store.profile) streams (past_of store)
-whole_restored streams store name output before after sink sink' done is =
-    let opened = told_store before.depot done.opened.depot done.store is.objects done.opens is.told in
-    let same : done.store ≡ store = one_store (bytes_of is.objects journal_name) done.store store opened.journal is.journal in
-    let was = subst (λ (s : StateView). IsOfStreams (numbers_of s.profile) streams (past_of s)) (sym same) is.of_streams in
-    let whole = subst (λ (s : StateView). IsWhole (numbers_of s.profile) streams (past_of s) is.objects) (sym same) is.whole in
-    subst (λ (s : StateView). ((count : ℕ) × HasRestored streams (past_of s) name output before.files after.files count) ⊎ ChunksCollide (numbers_of s.profile) streams (past_of s)) same
-    (whole_given_back streams is.objects name output before after sink sink' done is.told was whole)
+-- a store without entries
+pub first_store : (streams : Streams) (depot : ShelfView) (objects : Objects) (profile : Profile) → depot.held ≡ Some objects → bytes_of objects journal_name ≡ journal_text profile [] → IsWholeStore streams depot (store_of profile [])
+unfolding is_live is_unfinished has is_legal weight
+first_store streams depot objects profile told text = record {
+  objects = objects;
+  told = told;
+  journal = record { journal = record { text = text; valid = tt; fits = record { count = omega arith; weight = omega arith } }; limits = refl };
+  legal = refl;
+  of_streams = record { contents = record { contents = tt; complete = tt }; stored = record { stored = tt; ends = tt } };
+  whole = record { manifests = λ id live. absurd (false≢true live); containers = λ id unfinished below. absurd (false≢true unfinished) };
+}

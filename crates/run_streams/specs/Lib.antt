@@ -1,2 +1,3 @@
 pub mod RunStreams
 pub mod WholeStores
+pub mod Answered

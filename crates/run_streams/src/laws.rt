@@ -1,21 +1,31 @@
 // From what a run of a job did to the streams of its store.
-ghost use Rattle.std.specs.Prelude.{ℕ, ◌≡◌, ◌⊎◌, [], ◌∷◌, List, Some};
+ghost use Rattle.std.specs.FinMap.{contains_key};
+ghost use Rattle.std.specs.Prelude.{ℕ, ◌≡◌, ◌⊎◌, false, [], ◌∷◌, List, Some, Ok, Err};
 ghost use Rattle.std.specs.List.{All};
+ghost use Rattle.ss_base.specs.declared.profile.Profile.{Profile};
 ghost use Rattle.ss_base.specs.Profile.{numbers_of};
 ghost use Rattle.journal_entry.specs.Bounds.{IsEntry};
-ghost use Rattle.outside.specs.Shelf.{Objects};
+ghost use Rattle.outside.specs.Shelf.{Objects, bytes_of};
 ghost use Rattle.outside.specs.Views.{SinkView, ShelfView};
+ghost use Rattle.journal_file.specs.Header.{journal_name};
+ghost use Rattle.journal_file.specs.Journal.{journal_text};
+ghost use Rattle.store_core.specs.Replay.{NoneIs, has_session, has_reading};
 ghost use Rattle.store_core.specs.View.{StateView, past_of};
+ghost use Rattle.depot.specs.declared.fault.RestoreFault.{RestoreFault};
+ghost use Rattle.history.specs.Sessions.{retained};
 ghost use Rattle.restore.specs.Copies.{Shelves};
 ghost use Rattle.stored_streams.specs.Streams.{Streams};
 ghost use Rattle.stored_streams.specs.OfStreams.{IsOfStreams};
 ghost use Rattle.stored_streams.specs.Reads.{IsGiven};
 ghost use Rattle.stored_streams.specs.Reads.Reads.{held};
 ghost use Rattle.stored_streams.specs.Collision.{Collide};
-ghost use Rattle.restored_streams.specs.Restored.{HasRestored, ChunksCollide};
+ghost use Rattle.restored_streams.specs.Complete.{NoneFailed, IsAnswered};
+ghost use Rattle.restored_streams.specs.Restored.{HasRestored, LeavesFront, TellsNoDamage, ChunksCollide};
 ghost use Rattle.job_script.specs.declared.job.JobKind.{JobKind};
-ghost use Rattle.job_script.specs.declared.job.JobKind.TheVariants.{Restore};
+ghost use Rattle.job_script.specs.declared.job.JobKind.TheVariants.{Backup, Restore};
 ghost use Rattle.store_run.specs.JobRun.{HasDoneJob};
+ghost use Rattle.store_run.specs.Opening.{store_of};
+ghost use Rattle.run_streams.specs.Answered.{IsNoFault};
 ghost use Rattle.run_streams.specs.RunStreams.{HasInput};
 ghost use Rattle.run_streams.specs.WholeStores.{IsWholeStore, KeepsStore, KeepStore};
 
@@ -37,6 +47,24 @@ pub fn restored_by_a_run()
         ⊎ ChunksCollide (numbers_of store.profile) streams (past_of store) }
 {}
 
+/// A restore that did not answer leaves no output, an output that could not be made, or a front of the stream, and no other
+/// file changes; but for the same exceptions. From a whole store it tells of no damage. It runs nothing.
+pub fn fronts_by_a_run()
+    ensures read { (streams : Streams) (objects : Objects) (name output : List ℕ) (before after : Shelves) (sink sink' : SinkView) (status : ℕ) (fault : RestoreFault)
+        → (done : HasDoneJob (Restore name output) before after sink sink' status)
+        → done.job.result ≡ Err fault
+        → before.depot.held ≡ Some objects
+        → IsOfStreams (numbers_of done.store.profile) streams (past_of done.store)
+        → LeavesFront streams (past_of done.store) name output before.files after.files
+        ⊎ Collide (numbers_of done.store.profile) streams (past_of done.store) (IsGiven (held objects ∷ []) (past_of done.store)) }
+    ensures whole { (streams : Streams) (store : StateView) (name output : List ℕ) (before after : Shelves) (sink sink' : SinkView) (status : ℕ) (fault : RestoreFault)
+        → (done : HasDoneJob (Restore name output) before after sink sink' status)
+        → done.job.result ≡ Err fault
+        → IsWholeStore streams before.depot store
+        → TellsNoDamage fault
+        × (LeavesFront streams (past_of store) name output before.files after.files ⊎ ChunksCollide (numbers_of store.profile) streams (past_of store)) }
+{}
+
 /// A run of any job leaves the history of its store one of the streams, or two different byte lists among those that were
 /// hashed have one SHA-256; a backup's stream is its input's bytes. The depot is told, and its objects may be anything.
 /// It runs nothing.
@@ -51,9 +79,21 @@ pub fn streams_of_a_run()
         ⊎ Collide (numbers_of done.store.profile) streams (past_of done.new) (IsGiven (held objects ∷ []) (past_of done.new)) }
 {}
 
-/// Runs whose entries were kept leave a store whole whose depot was whole: its journal is that of a legal history of the
-/// streams then, and its objects are whole for it. Each backup's stream is its input's bytes. It runs nothing.
+/// Behind a run that did a job no session and no reading is unfinished, whatever its status. It runs nothing.
+pub fn closed_by_a_run()
+    ensures { (kind : JobKind) (before after : Shelves) (sink sink' : SinkView) (status : ℕ)
+        → (done : HasDoneJob kind before after sink sink' status)
+        → NoneIs (has_session done.new) × NoneIs (has_reading done.new) }
+{}
+
+/// A store without entries is whole. Runs whose entries were kept leave a store whole whose depot was whole: its journal is
+/// that of a legal history of the streams then, and its objects are whole for it. Each backup's stream is its input's
+/// bytes. It runs nothing.
 pub fn stores_stay_whole()
+    ensures first { (streams : Streams) (depot : ShelfView) (objects : Objects) (profile : Profile)
+        → depot.held ≡ Some objects
+        → bytes_of objects journal_name ≡ journal_text profile []
+        → IsWholeStore streams depot (store_of profile []) }
     ensures one { (streams : Streams) (before after : Shelves) (store : StateView)
         → KeepsStore streams before after
         → IsWholeStore streams before.depot store
@@ -65,4 +105,30 @@ pub fn stores_stay_whole()
     // The depot tells which store it is.
     ensures same { (streams : Streams) (depot : ShelfView) (one other : StateView)
         → IsWholeStore streams depot one → IsWholeStore streams depot other → one ≡ other }
+{}
+
+/// A restore that nothing keeps off is answered: from a whole store, of a name that is retained, to an output that is told
+/// to be absent, where no count of faults rose in the job. Else its look had no room in the journal, or memory was wanted.
+/// It runs nothing.
+pub fn restores_are_answered()
+    ensures { (streams : Streams) (store : StateView) (files : Objects) (session : ℕ) (name output : List ℕ) (before after : Shelves) (sink sink' : SinkView) (status : ℕ)
+        → (done : HasDoneJob (Restore name output) before after sink sink' status)
+        → IsWholeStore streams before.depot store
+        → retained name (past_of store) ≡ Some session
+        → before.files.held ≡ Some files
+        → contains_key files output ≡ false
+        → NoneFailed done.opened done.done
+        → IsAnswered done.store done.new done.job.result }
+{}
+
+/// So is a backup, of a file that is told: from a whole store, where its entries were kept and no count of faults rose in
+/// the job, it tells of no fault and no damage. It runs nothing.
+pub fn backups_are_answered()
+    ensures { (streams : Streams) (store : StateView) (input name : List ℕ) (before after : Shelves) (sink sink' : SinkView) (status : ℕ)
+        → (done : HasDoneJob (Backup input name) before after sink sink' status)
+        → IsWholeStore streams before.depot store
+        → HasInput (Backup input name) streams before.files (past_of done.store) (past_of done.new)
+        → done.ending.kept ≡ Ok tt
+        → NoneFailed done.opened done.done
+        → IsNoFault done.job.result }
 {}

@@ -4,7 +4,10 @@
 
 mod laws;
 
-pub use laws::{restored_by_a_run, stores_stay_whole, streams_of_a_run};
+pub use laws::{
+    backups_are_answered, closed_by_a_run, fronts_by_a_run, restored_by_a_run,
+    restores_are_answered, stores_stay_whole, streams_of_a_run,
+};
 
 #[cfg(test)]
 mod tests;

@@ -5,7 +5,11 @@ use std::test::Fail;
 #[test]
 fn each_law_is_called(_rt: HostRuntime) -> Result<(), Fail> {
     restored_by_a_run();
+    fronts_by_a_run();
     streams_of_a_run();
     stores_stay_whole();
+    closed_by_a_run();
+    restores_are_answered();
+    backups_are_answered();
     Ok(())
 }

@@ -15,6 +15,7 @@ use Rattle.ss_base.specs.Profile.{AreSound}
 use Rattle.ss_base.proofs.MemberLaws.{In, in_Contains, All-from_in}
 use Rattle.ss_base.proofs.IdLaws.{same_manifest-self, same_manifest-true}
 use Rattle.chunk_name.specs.Pieces.{piece, name_of_bytes}
+use Rattle.manifest_codec.specs.PiecesPart.{pieces_part}
 use Rattle.manifest_codec.specs.Text.{manifest_text, IsPlace, AreManifest}
 use Rattle.manifest_codec.specs.Containers.{AreContainers}
 use Rattle.journal_entry.specs.declared.entry.Entry.{Entry}
@@ -174,5 +175,47 @@ kept_counts n streams (entry ∷ past) id view contents committed is = elim (cas
   | inr other ↦ elim (has_cases (commits_manifest id) entry past committed) [
     | inl here ↦ absurd (both_ways _ other here)
     | inr older ↦ kept_counts n streams past id view contents.0 older (sym (kept_older id entry past other) ∙ is)
+  ]
+]
+
+-- ---- what was kept is like what was planned
+
+pub record IsStored (n : Numbers) (streams : Streams) (past : List Entry) (id : ManifestId) (view : KeptView) : Type 0 where
+  pub content : view.content ≡ name_of_bytes (pieces_part (manifest_pieces n streams id))
+  pub uses : AreContainers (planned_places id (plans_of n streams past)) view.uses
+
+stored_commit : (n : Numbers) (streams : Streams) (past : List Entry) (author : ℕ) (id : ManifestId) (content text : Name) (chunks bytes fresh fresh_bytes : ℕ) (uses : List ContainerId) → ContentOf n streams past (Commit id content text chunks bytes fresh fresh_bytes uses) → StoredOf n streams past (Commit id content text chunks bytes fresh fresh_bytes uses)
+    → IsStored n streams (record { author = author; point = Commit id content text chunks bytes fresh fresh_bytes uses } ∷ past) id (record { id = id; text = text; content = content; chunks = chunks; uses = uses })
+unfolding plans_of plans_after next_plan plan_for
+stored_commit n streams past author id content text chunks bytes fresh fresh_bytes uses holds stored =
+    let plans = plans_of n streams past in
+    let plan = next_plan n streams past id plans in
+    let places : planned_places id (plan ∷ plans) ≡ plan.places = places_newest id plan plans refl in
+    record { content = holds.digest; uses = subst (λ (ps : List Place). AreContainers ps uses) (sym places) stored.containers }
+
+stored_here : (n : Numbers) (streams : Streams) (past : List Entry) (author : ℕ) (id : ManifestId) (view : KeptView) (point : Point) → commits_manifest id point ≡ true → ContentOf n streams past point → StoredOf n streams past point → kept_by point ≡ Some view → IsStored n streams (record { author = author; point = point } ∷ past) id view
+unfolding commits_manifest kept_by
+stored_here n streams past author id view (Commit other content text chunks bytes fresh fresh_bytes uses) does holds stored is =
+    let at : KeptView = record { id = other; text = text; content = content; chunks = chunks; uses = uses } in
+    let same : at ≡ view = cc in
+    let past' = record { author = author; point = Commit other content text chunks bytes fresh fresh_bytes uses } ∷ past in
+    subst (IsStored n streams past' id) same
+    (subst (λ (i : ManifestId). IsStored n streams past' i at) (sym (same_manifest-true id other does))
+    (stored_commit n streams past author other content text chunks bytes fresh fresh_bytes uses holds stored))
+stored_here n streams past author id view _ does holds stored is = absurd (false≢true does)
+
+stored_before : (n : Numbers) (streams : Streams) (entry : Entry) (past : List Entry) (id : ManifestId) (view : KeptView) → commits_manifest id entry.point ≡ false → IsStored n streams past id view → IsStored n streams (entry ∷ past) id view
+unfolding plans_of
+stored_before n streams entry past id view other older =
+    let stay : planned_places id (plans_of n streams (entry ∷ past)) ≡ planned_places id (plans_of n streams past) = places_stay n streams past id entry.point (plans_of n streams past) other in
+    record { content = older.content; uses = subst (λ (ps : List Place). AreContainers ps view.uses) (sym stay) older.uses }
+
+pub kept_stored : (n : Numbers) (streams : Streams) (past : List Entry) (id : ManifestId) (view : KeptView) → EachEntry (ContentOf n streams) past → EachEntry (StoredOf n streams) past → has (commits_manifest id) past ≡ true → kept id past ≡ Some view → IsStored n streams past id view
+kept_stored n streams [] id view contents stored committed is = absurd (both_ways _ (has_none (commits_manifest id)) committed)
+kept_stored n streams (entry ∷ past) id view contents stored committed is = elim (cases_Bool (commits_manifest id entry.point)) [
+  | inl here ↦ stored_here n streams past entry.author id view entry.point here contents.1 stored.1 (sym (kept_here id entry past here) ∙ is)
+  | inr other ↦ elim (has_cases (commits_manifest id) entry past committed) [
+    | inl here ↦ absurd (both_ways _ other here)
+    | inr older ↦ stored_before n streams entry past id view other (kept_stored n streams past id view contents.0 stored.0 older (sym (kept_older id entry past other) ∙ is))
   ]
 ]

@@ -1,4 +1,4 @@
-use Rattle.run_streams.proofs.WholeRunLaws.{run_keeps_store, runs_keep_store, same_store}
+use Rattle.run_streams.proofs.WholeRunLaws.{run_keeps_store, runs_keep_store, same_store, first_store}
 use Rattle.run_streams.proofs.laws.stores_stay_whole.Goals as goal
 
 pub returns-clause-one : goal.returns-clause-one
@@ -9,3 +9,6 @@ returns-clause-many c = λ streams before after store runs is. runs_keep_store s
 
 pub returns-clause-same : goal.returns-clause-same
 returns-clause-same c = λ streams depot one other is is_too. same_store streams depot one other is is_too
+
+pub returns-clause-first : goal.returns-clause-first
+returns-clause-first c = λ streams depot objects profile told text. first_store streams depot objects profile told text
