@@ -52,8 +52,8 @@ pub data HasPutSome (id : ManifestId) (chunks : List (List ℕ)) (against : List
 
 -- the session ends with so many containers, and with so many manifests or more
 pub data Closes (session containers count : ℕ) (last : Entry) : Type 0 where
-  finishes : last.point ≡ Finish session containers → Closes session containers count last
-  aborts : (written : ℕ) → count ≤ written → last.point ≡ Abort session containers written → Closes session containers count last
+  by_finish : last.point ≡ Finish session containers → Closes session containers count last
+  by_abort : (written : ℕ) → count ≤ written → last.point ≡ Abort session containers written → Closes session containers count last
 
 -- Behind the session's commits, of which there are so many, nothing was changed; or something of one more segment was
 -- put, and the session was given up with that one laid out.

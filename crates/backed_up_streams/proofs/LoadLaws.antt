@@ -38,7 +38,7 @@ use Rattle.stored_streams.proofs.PlanLaws.{end_own}
 use Rattle.backed_up_streams.proofs.ContentLaws.{self}
 use Rattle.backed_up_streams.proofs.GaveLaws.{GaveMore}
 use Rattle.backed_up_streams.proofs.LeftLaws.{HasPutSome, Closes, IsLeft}
-use Rattle.backed_up_streams.proofs.LeftLaws.Closes.{finishes, aborts}
+use Rattle.backed_up_streams.proofs.LeftLaws.Closes.{by_finish, by_abort}
 use Rattle.backed_up_streams.proofs.LeftLaws.IsLeft.{untouched, put_some}
 use Rattle.backed_up_streams.proofs.SegmentLaws.{item_behind, next_chunks}
 use Rattle.backed_up_streams.proofs.KeptLaws.{IsKept, kept_there, all_kept-first, end_at_first}
@@ -215,11 +215,11 @@ module _ (n : Numbers) (streams : Streams) (older : List Entry) (author session 
 
       pub finished_so : HasEnded (made author (Finish session end.containers) ∷ past) after
       unfolding commits_manifest
-      finished_so = ended (Finish session end.containers) (λ id. refl) (λ all plans is. sym (ap (λ (e : ContainerEnd). e.containers) is)) (λ e is. finishes (ap (λ (x : ContainerEnd). Finish session x.containers) (sym is)))
+      finished_so = ended (Finish session end.containers) (λ id. refl) (λ all plans is. sym (ap (λ (e : ContainerEnd). e.containers) is)) (λ e is. by_finish (ap (λ (x : ContainerEnd). Finish session x.containers) (sym is)))
 
       pub given_up_so : (written : ℕ) → count ≤ written → HasEnded (made author (Abort session end.containers written) ∷ past) after
       unfolding commits_manifest
-      given_up_so written least = ended (Abort session end.containers written) (λ id. refl) (λ all plans is. inl (sym (ap (λ (e : ContainerEnd). e.containers) is))) (λ e is. aborts written least (ap (λ (x : ContainerEnd). Abort session x.containers written) (sym is)))
+      given_up_so written least = ended (Abort session end.containers written) (λ id. refl) (λ all plans is. inl (sym (ap (λ (e : ContainerEnd). e.containers) is))) (λ e is. by_abort written least (ap (λ (x : ContainerEnd). Abort session x.containers written) (sym is)))
 
     -- ---- its start
 
