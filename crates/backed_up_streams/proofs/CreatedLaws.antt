@@ -26,7 +26,7 @@ use Rattle.segment_plan.proofs.LieLaws.{Contains-from_in}
 use Rattle.outside.specs.Shelf.{Objects, bytes_of, with_object, with_added, without_object, CreateLeaves, AppendLeaves}
 use Rattle.outside.specs.Views.{ShelfView}
 use Rattle.outside.specs.declared.trouble.Trouble.{Trouble}
-use Rattle.outside.proofs.ObjectLaws.{get-insert_other, get-remove_other}
+use Rattle.outside.proofs.ObjectLaws.{get-insert_other, get-remove_same, get-remove_other}
 use Rattle.journal_entry.specs.declared.entry.Entry.{Entry}
 use Rattle.journal_entry.specs.declared.entry.Point.TheVariants.{Choose, Finish, Abort}
 use Rattle.history.specs.declared.rules.Rules.{Rules}
@@ -77,36 +77,36 @@ each_insert P objects name bytes is each q b found = elim (same_bytes q name) [
   | inr differs ↦ each q b (sym (get-insert_other objects name bytes q differs) ∙ found)
 ]
 
-each_remove : (P : List ℕ → Type 0) (objects : Objects) (name : List ℕ) → P name → Each P objects → Each P (map_of.remove objects name)
-each_remove P objects name is each q b found = elim (same_bytes q name) [
-  | inl same ↦ subst P (sym same) is
+each_remove : (P : List ℕ → Type 0) (objects : Objects) (name : List ℕ) → Each P objects → Each P (map_of.remove objects name)
+each_remove P objects name each q b found = elim (same_bytes q name) [
+  | inl same ↦ let gone = sym (get-remove_same objects name) ∙ ap (map_of.get (map_of.remove objects name)) (sym same) ∙ found in absurd (cc)
   | inr differs ↦ each q b (sym (get-remove_other objects name q differs) ∙ found)
 ]
 
-all_weaker : (P Q : List ℕ → Type 0) (held : Option Objects) → ((name : List ℕ) → P name → Q name) → AllHeld P held → AllHeld Q held
+pub all_weaker : (P Q : List ℕ → Type 0) (held : Option Objects) → ((name : List ℕ) → P name → Q name) → AllHeld P held → AllHeld Q held
 all_weaker P Q held weaker all = record { now = all.now; held_is = all.held_is; each = λ name bytes found. weaker name (all.each name bytes found) }
 
 -- behind changes of objects with such names
 module _ (P : List ℕ → Type 0) where
-  all_with : (held : Option Objects) (name bytes : List ℕ) → P name → AllHeld P held → AllHeld P (with_object held name bytes)
+  pub all_with : (held : Option Objects) (name bytes : List ℕ) → P name → AllHeld P held → AllHeld P (with_object held name bytes)
   all_with held name bytes is all = record {
     now = map_of.insert all.now name bytes;
     held_is = ap (λ (h : Option Objects). with_object h name bytes) all.held_is;
     each = each_insert P all.now name bytes is all.each;
   }
 
-  all_added : (held : Option Objects) (name bytes : List ℕ) → P name → AllHeld P held → AllHeld P (with_added held name bytes)
+  pub all_added : (held : Option Objects) (name bytes : List ℕ) → P name → AllHeld P held → AllHeld P (with_added held name bytes)
   all_added held name bytes is all = record {
     now = map_of.insert all.now name (bytes_of all.now name ++ bytes);
     held_is = ap (λ (h : Option Objects). with_added h name bytes) all.held_is;
     each = each_insert P all.now name (bytes_of all.now name ++ bytes) is all.each;
   }
 
-  all_without : (held : Option Objects) (name : List ℕ) → P name → AllHeld P held → AllHeld P (without_object held name)
-  all_without held name is all = record {
+  pub all_without : (held : Option Objects) (name : List ℕ) → AllHeld P held → AllHeld P (without_object held name)
+  all_without held name all = record {
     now = map_of.remove all.now name;
     held_is = ap (λ (h : Option Objects). without_object h name) all.held_is;
-    each = each_remove P all.now name is all.each;
+    each = each_remove P all.now name all.each;
   }
 
   all_put : (shelf : ShelfView) (put : PutBytes) → P (put_name put) → AllHeld P shelf.held → AllHeld P (after_put shelf put).held
@@ -122,7 +122,7 @@ module _ (P : List ℕ → Type 0) where
   all_create : (old new : Option Objects) (name bytes : List ℕ) → P name → AllHeld P old → CreateLeaves old new name bytes → AllHeld P new
   all_create old new name bytes is all (inl same) = subst (AllHeld P) (sym same) all
   all_create old new name bytes is all (inr (inl (front, back, bytes_are, made_it))) = subst (AllHeld P) (sym made_it) (all_with old name front is all)
-  all_create old new name bytes is all (inr (inr gone)) = subst (AllHeld P) (sym gone) (all_without old name is all)
+  all_create old new name bytes is all (inr (inr gone)) = subst (AllHeld P) (sym gone) (all_without old name all)
 
   all_append : (old new : Option Objects) (name bytes : List ℕ) → P name → AllHeld P old → AppendLeaves old new name bytes → AllHeld P new
   all_append old new name bytes is all (inl same) = subst (AllHeld P) (sym same) all
