@@ -1,5 +1,5 @@
 -- What the end of a session leaves of its depot.
-use Rattle.std.proofs.Common.{◌≡◌, ℕ, List, [], ◌∷◌, Err, refl, ap, ◌∙◌, inl, inr}
+use Rattle.std.proofs.Common.{◌≡◌, ℕ, ◌+◌, ◌≤◌, List, [], ◌∷◌, Err, refl, ap, ◌∙◌, inl, inr}
 use Rattle.ss_base.specs.declared.ids.ManifestId.{ManifestId}
 use Rattle.ss_base.specs.declared.object.Object.TheVariants.{Manifest as ManifestObject}
 use Rattle.ss_base.specs.declared.profile.Numbers.{Numbers}
@@ -11,7 +11,7 @@ use Rattle.outside.specs.Shelf.{CreateLeaves}
 use Rattle.outside.specs.Views.{ShelfView}
 use Rattle.outside.specs.declared.trouble.Trouble.{Trouble}
 use Rattle.journal_entry.specs.declared.entry.Entry.{Entry}
-use Rattle.journal_entry.specs.declared.entry.Point.TheVariants.{Abort}
+use Rattle.journal_entry.specs.declared.entry.Point.TheVariants.{Finish, Abort}
 use Rattle.store_core.specs.View.{KeptView, made}
 use Rattle.depot.specs.declared.fault.LoadFault.{LoadFault}
 use Rattle.depot.specs.declared.fault.LoadFault.TheVariants.{Shelf, Damaged, Unlike, Memory}
@@ -44,16 +44,21 @@ stopped_loads-held before after kepts fault is =
 
 -- ---- a segment that was not committed
 
--- its puts and the write of its manifest: one of them failed, or all are done
-pub data HasPutSome (id : ManifestId) (chunks : List (List ℕ)) (against : List Located) (end : ContainerEnd) (room : ℕ) (before after : ShelfView) : Type 0 where
-  stopped : (trouble : Trouble) → IsPutStopped before after (puts_against chunks against end room) trouble → HasPutSome id chunks against end room before after
-  unwritten : (trouble : Trouble) → HasFailed (λ old new. CreateLeaves old new (object_text (ManifestObject id)) (text_against chunks against end room)) (after_puts before (puts_against chunks against end room)) after trouble → HasPutSome id chunks against end room before after
-  all_done : after ≡ after_segment before id chunks against end room → HasPutSome id chunks against end room before after
+-- its puts and the write of its manifest, which is one of so many: one of them failed, or all are done
+pub data HasPutSome (id : ManifestId) (chunks : List (List ℕ)) (against : List Located) (end : ContainerEnd) (room written : ℕ) (before after : ShelfView) : Type 0 where
+  stopped : (trouble : Trouble) → id.seq ≤ written → IsPutStopped before after (puts_against chunks against end room) trouble → HasPutSome id chunks against end room written before after
+  unwritten : (trouble : Trouble) → id.seq + 1 ≤ written → HasFailed (λ old new. CreateLeaves old new (object_text (ManifestObject id)) (text_against chunks against end room)) (after_puts before (puts_against chunks against end room)) after trouble → HasPutSome id chunks against end room written before after
+  all_done : id.seq + 1 ≤ written → after ≡ after_segment before id chunks against end room → HasPutSome id chunks against end room written before after
+
+-- the session ends with so many containers, and with so many manifests or more
+pub data Closes (session containers count : ℕ) (last : Entry) : Type 0 where
+  by_finish : last.point ≡ Finish session containers → Closes session containers count last
+  by_abort : (written : ℕ) → count ≤ written → last.point ≡ Abort session containers written → Closes session containers count last
 
 -- Behind the session's commits, of which there are so many, nothing was changed; or something of one more segment was
 -- put, and the session was given up with that one laid out.
 pub data IsLeft (n : Numbers) (author session count : ℕ) (last : Entry) (plans : List Planned) (before after : ShelfView) : Type 0 where
-  untouched : after.held ≡ before.held → IsLeft n author session count last plans before after
+  untouched : after.held ≡ before.held → Closes session (end_of session plans).containers count last → IsLeft n author session count last plans before after
   put_some : (chunks : List (List ℕ)) (against : List Located) (written : ℕ)
       → last ≡ made author (Abort session (end_against chunks against (end_of session plans) n.room).containers written)
-      → HasPutSome (record { session = session; seq = count }) chunks against (end_of session plans) n.room before after → IsLeft n author session count last plans before after
+      → HasPutSome (record { session = session; seq = count }) chunks against (end_of session plans) n.room written before after → IsLeft n author session count last plans before after

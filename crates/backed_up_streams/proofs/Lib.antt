@@ -17,3 +17,5 @@ pub mod CollisionLaws
 pub mod WholeLaws
 pub mod WholeBackupLaws
 pub mod DamageLaws
+pub mod CreatedLaws
+pub mod CreatedBackupLaws

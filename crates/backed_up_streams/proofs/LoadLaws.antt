@@ -1,5 +1,5 @@
 -- What a session's loads gave, and what it stores against them.
-use Rattle.std.proofs.Common.{◌≡◌, ℕ, ◌==◌, ◌⊎◌, true, false, List, [], ◌∷◌, ◌++◌, length, Option, Some, refl, sym, ap, ◌∙◌, subst, inl, inr, arith, append_assoc, length-append}
+use Rattle.std.proofs.Common.{◌≡◌, ℕ, ◌≤◌, ◌==◌, ◌⊎◌, true, false, List, [], ◌∷◌, ◌++◌, length, Option, Some, refl, sym, ap, ◌∙◌, subst, inl, inr, arith, append_assoc, length-append}
 use Rattle.std.specs.List.{slice_index_or}
 use Rattle.std.specs.Option.{unwrap_or}
 use Rattle.std.proofs.lemmas.Bool.{and_parts}
@@ -37,7 +37,8 @@ use Rattle.stored_streams.specs.Loads.{Loads, loaded_after, loaded_plans, IsLoad
 use Rattle.stored_streams.proofs.PlanLaws.{end_own}
 use Rattle.backed_up_streams.proofs.ContentLaws.{self}
 use Rattle.backed_up_streams.proofs.GaveLaws.{GaveMore}
-use Rattle.backed_up_streams.proofs.LeftLaws.{HasPutSome, IsLeft}
+use Rattle.backed_up_streams.proofs.LeftLaws.{HasPutSome, Closes, IsLeft}
+use Rattle.backed_up_streams.proofs.LeftLaws.Closes.{by_finish, by_abort}
 use Rattle.backed_up_streams.proofs.LeftLaws.IsLeft.{untouched, put_some}
 use Rattle.backed_up_streams.proofs.SegmentLaws.{item_behind, next_chunks}
 use Rattle.backed_up_streams.proofs.KeptLaws.{IsKept, kept_there, all_kept-first, end_at_first}
@@ -191,8 +192,9 @@ module _ (n : Numbers) (streams : Streams) (older : List Entry) (author session 
 
     module _ (count : ℕ) (past : List Entry) (shelf : ShelfView) (end : ContainerEnd) (so : IsSoFar count past shelf end) (after : ShelfView) (gave : GaveMore shelf after) (held : after.held ≡ shelf.held) where
       -- with an end that has as many containers as are laid out
-      ended : (point : Point) → ((id : ManifestId) → commits_manifest id point ≡ false) → ((all : List (List ℕ)) (plans : List Planned) → end_of session plans ≡ end → LoadedOf n streams (loads_of (so.lists ++ [])) (λ b. In b all) (so.newer ++ older) plans point) → HasEnded (made author point ∷ past) after
-      ended point keeps says = record {
+      ended : (point : Point) → ((id : ManifestId) → commits_manifest id point ≡ false) → ((all : List (List ℕ)) (plans : List Planned) → end_of session plans ≡ end → LoadedOf n streams (loads_of (so.lists ++ [])) (λ b. In b all) (so.newer ++ older) plans point)
+          → ((e : ContainerEnd) → e ≡ end → Closes session e.containers count (made author point)) → HasEnded (made author point ∷ past) after
+      ended point keeps says closes = record {
         last = made author point;
         then_newer = so.newer;
         past_is = ap (λ (p : List Entry). made author point ∷ p) so.past_is;
@@ -205,7 +207,7 @@ module _ (n : Numbers) (streams : Streams) (older : List Entry) (author session 
         then_shelf = shelf;
         told = so.told;
         gave_more = gave;
-        left = untouched held;
+        left = untouched held (closes (end_of session so.plans) so.end_is);
         stores = λ allowed all more.
             let plans = loaded_plans n streams (loads_of (so.lists ++ [])) so.newer older in
             (so.stores (telling.before (made author point) (so.newer ++ older) allowed) [] all more, says all plans (ap (end_of session) (so.plans_are []) ∙ so.end_is));
@@ -213,11 +215,11 @@ module _ (n : Numbers) (streams : Streams) (older : List Entry) (author session 
 
       pub finished_so : HasEnded (made author (Finish session end.containers) ∷ past) after
       unfolding commits_manifest
-      finished_so = ended (Finish session end.containers) (λ id. refl) (λ all plans is. sym (ap (λ (e : ContainerEnd). e.containers) is))
+      finished_so = ended (Finish session end.containers) (λ id. refl) (λ all plans is. sym (ap (λ (e : ContainerEnd). e.containers) is)) (λ e is. by_finish (ap (λ (x : ContainerEnd). Finish session x.containers) (sym is)))
 
-      pub given_up_so : (written : ℕ) → HasEnded (made author (Abort session end.containers written) ∷ past) after
+      pub given_up_so : (written : ℕ) → count ≤ written → HasEnded (made author (Abort session end.containers written) ∷ past) after
       unfolding commits_manifest
-      given_up_so written = ended (Abort session end.containers written) (λ id. refl) (λ all plans is. inl (sym (ap (λ (e : ContainerEnd). e.containers) is)))
+      given_up_so written least = ended (Abort session end.containers written) (λ id. refl) (λ all plans is. inl (sym (ap (λ (e : ContainerEnd). e.containers) is))) (λ e is. by_abort written least (ap (λ (x : ContainerEnd). Abort session x.containers written) (sym is)))
 
     -- ---- its start
 
@@ -315,7 +317,7 @@ module _ (n : Numbers) (streams : Streams) (older : List Entry) (author session 
           )
 
       pub given_up_pending : (after : ShelfView) (written : ℕ) → is_pending session past ≡ true → GaveMore (after_loads shelf (all_kept ids past) manifests) after
-          → HasPutSome next chunks against end n.room (after_loads shelf (all_kept ids past) manifests) after → HasEnded (give_up written ∷ past) after
+          → HasPutSome next chunks against end n.room written (after_loads shelf (all_kept ids past) manifests) after → HasEnded (give_up written ∷ past) after
       unfolding commits_manifest
       given_up_pending after written waits gave some = record {
         last = give_up written;
@@ -332,8 +334,8 @@ module _ (n : Numbers) (streams : Streams) (older : List Entry) (author session 
         gave_more = subst (λ (p : List Entry). GaveMore (after_loads shelf (all_kept ids p) manifests) after) so.past_is gave;
         left =
             put_some chunks against written (ap (λ (e : ContainerEnd). made author (Abort session (end_against chunks against e n.room).containers written)) (sym so.end_is))
-            (subst (λ (e : ContainerEnd). HasPutSome next chunks against e n.room (after_loads shelf (all_kept ids before) manifests) after) (sym so.end_is)
-            (subst (λ (p : List Entry). HasPutSome next chunks against end n.room (after_loads shelf (all_kept ids p) manifests) after) so.past_is some));
+            (subst (λ (e : ContainerEnd). HasPutSome next chunks against e n.room written (after_loads shelf (all_kept ids before) manifests) after) (sym so.end_is)
+            (subst (λ (p : List Entry). HasPutSome next chunks against end n.room written (after_loads shelf (all_kept ids p) manifests) after) so.past_is some));
         stores = λ allowed all more.
             let older_allowed = telling.before (give_up written) before allowed in
             let plans = loaded_plans n streams (loads_of (so.lists ++ against ∷ [])) so.newer older in

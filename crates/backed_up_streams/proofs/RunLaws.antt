@@ -57,6 +57,7 @@ module _ (standings champions : ℕ) (files : ShelfView) (input name : List ℕ)
       same_author = started.begun.author;
       same_session = refl;
       same_numbers = numbers_same;
+      texts_are = refl;
       so =
           subst (λ (p : List Entry). IsSoFar the_numbers streams the_older before.author the_session Told Allowed telling 0 p depot (no_end the_session)) (sym begins_with)
           (start_so_far the_numbers streams the_older before.author the_session Told Allowed telling name depot

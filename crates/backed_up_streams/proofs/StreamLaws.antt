@@ -1,5 +1,5 @@
 -- What a session stores against what was loaded, segment by segment.
-use Rattle.std.proofs.Common.{◌≡◌, ℕ, true, List, [], ◌∷◌, ◌++◌, length, sym, ap, ◌∙◌, subst, append_assoc}
+use Rattle.std.proofs.Common.{◌≡◌, ℕ, ◌+◌, ◌≤◌, true, List, [], ◌∷◌, ◌++◌, length, refl, sym, ap, ◌∙◌, subst, arith, append_assoc, length-append}
 use Rattle.std.proofs.lemmas.List.{append-nil}
 use Rattle.ss_base.specs.declared.ids.ManifestId.{ManifestId}
 use Rattle.ss_base.specs.declared.name.Name.{Name}
@@ -54,6 +54,7 @@ module _ (n : Numbers) (streams : Streams) (older : List Entry) (author session 
     pub same_session : reached.caller.session ≡ session
     pub same_numbers : numbers_of reached.caller.seen.profile ≡ n
     pub so : So count (past_of reached.caller.seen) reached.progress.shelf reached.progress.end
+    pub texts_are : reached.progress.texts ≡ count
 
   -- and behind a choice
   pub record WaitsSo (count : ℕ) (chosen : ChosenView) (progress : Progress) : Type 0 where
@@ -61,6 +62,7 @@ module _ (n : Numbers) (streams : Streams) (older : List Entry) (author session 
     pub same_session : chosen.session ≡ session
     pub same_numbers : numbers_of chosen.seen.profile ≡ n
     pub so : So count (past_of chosen.seen) progress.shelf progress.end
+    pub texts_are : progress.texts ≡ count
     pub ids : List ManifestId
     pub pending_are : pending_champions session (past_of chosen.seen) ≡ ids
     pub waits : is_pending session (past_of chosen.seen) ≡ true
@@ -70,9 +72,9 @@ module _ (n : Numbers) (streams : Streams) (older : List Entry) (author session 
   counted_past : (count : ℕ) (past : List Entry) (shelf : ShelfView) (end : ContainerEnd) → So count past shelf end → commits_of session past ≡ count
   counted_past count past shelf end so = ap (commits_of session) so.past_is ∙ so.counted
 
-  choice-so : (count : ℕ) (wanted : List Name) (seen : StateView) (progress : Progress) (chosen : ChosenView) → numbers_of seen.profile ≡ n → So count (past_of seen) progress.shelf progress.end
+  choice-so : (count : ℕ) (wanted : List Name) (seen : StateView) (progress : Progress) (chosen : ChosenView) → numbers_of seen.profile ≡ n → So count (past_of seen) progress.shelf progress.end → progress.texts ≡ count
       → HasChosen alone standings champions (open_at author session seen) wanted chosen → WaitsSo count chosen progress
-  choice-so count wanted seen progress chosen is_n so has =
+  choice-so count wanted seen progress chosen is_n so texts has =
       let is = chose standings champions author seen session wanted chosen has in
       let past = past_of seen in
       let added = is.steps_are.past in
@@ -83,6 +85,7 @@ module _ (n : Numbers) (streams : Streams) (older : List Entry) (author session 
         so =
             subst (λ (p : List Entry). So count p progress.shelf progress.end) (sym added)
             (chosen_so_far n streams older author session Told Allowed telling count past progress.shelf progress.end wanted is.ids so);
+        texts_are = texts;
         ids = is.ids;
         pending_are = ap (pending_champions session) added ∙ champions_behind author session wanted is.ids past;
         waits = ap (is_pending session) added ∙ waits_behind author session wanted is.ids past;
@@ -125,10 +128,14 @@ module _ (n : Numbers) (streams : Streams) (older : List Entry) (author session 
           let end_is : after.progress.end ≡ end_against chunks against progress.end n.room = stores.stored_is.end ∙ ap (λ (r : ℕ). end_against chunks against progress.end r) room_is in
           let past_is : past_of after.caller.seen ≡ made author (commit_point session (length front) stored) ∷ the_past =
           is.steps_are.past ∙ ap (λ (k : ℕ). made author (commit_point session k stored) ∷ the_past) (counted_past (length front) the_past progress.shelf progress.end at.so) in
+          let texts = stores.stored_is.texts in
+          let texts_before = at.texts_are in
+          let longer = length-append front (chunks ∷ []) in
           record {
             same_author = is.same_author;
             same_session = is.same_session;
             same_numbers = ap numbers_of is.steps_are.profile ∙ at.same_numbers;
+            texts_are = omega (arith, texts, texts_before, longer);
             so =
                 subst (λ (p : List Entry). So (length (front ++ chunks ∷ [])) p after.progress.shelf after.progress.end) (sym past_is)
                 (subst (λ (s : ShelfView). So (length (front ++ chunks ∷ [])) (made author (commit_point session (length front) stored) ∷ the_past) s after.progress.end) (sym shelf_is)
@@ -139,49 +146,60 @@ module _ (n : Numbers) (streams : Streams) (older : List Entry) (author session 
 
       module _ (legal : is_legal (rules_of standings champions chosen.seen) the_past ≡ true) (written : ℕ) where
         -- with the containers as before
-        same-ends : (last : Progress) → last.end ≡ progress.end → GaveMore progress.shelf last.shelf → last.shelf.held ≡ progress.shelf.held → Ended (made author (Abort session last.end.containers written) ∷ the_past) last.shelf
-        same-ends last end_is gave held =
+        same-ends : (last : Progress) → last.end ≡ progress.end → length front ≤ written → GaveMore progress.shelf last.shelf → last.shelf.held ≡ progress.shelf.held → Ended (made author (Abort session last.end.containers written) ∷ the_past) last.shelf
+        same-ends last end_is least gave held =
             subst (λ (e : ContainerEnd). Ended (made author (Abort session e.containers written) ∷ the_past) last.shelf) (sym end_is)
-            (given_up_so n streams older author session Told Allowed telling (length front) the_past progress.shelf progress.end at.so last.shelf gave held written)
+            (given_up_so n streams older author session Told Allowed telling (length front) the_past progress.shelf progress.end at.so last.shelf gave held written least)
 
         -- or with those of the segment too
         laid-ends : (last : Progress) (manifests : List Manifest) → AreLoaded progress.shelf chosen.choice.champions.items manifests → last.end ≡ end_against chunks (located manifests) progress.end room
             → GaveMore (after_loads progress.shelf chosen.choice.champions.items manifests) last.shelf
-            → HasPutSome chosen.choice.manifest chunks (located manifests) progress.end room (after_loads progress.shelf chosen.choice.champions.items manifests) last.shelf → Ended (made author (Abort session last.end.containers written) ∷ the_past) last.shelf
+            → HasPutSome chosen.choice.manifest chunks (located manifests) progress.end room written (after_loads progress.shelf chosen.choice.champions.items manifests) last.shelf → Ended (made author (Abort session last.end.containers written) ∷ the_past) last.shelf
         laid-ends last manifests loaded end_is gave some =
             subst (λ (e : ContainerEnd). Ended (made author (Abort session e.containers written) ∷ the_past) last.shelf) (sym (end_is ∙ ap (λ (r : ℕ). end_against chunks (located manifests) progress.end r) room_is))
             (given_up_pending n streams older author session Told Allowed telling front rest chunks are (rules_of standings champions chosen.seen) the_past legal progress.shelf progress.end at.so at.ids at.pending_are manifests (loaded_kept manifests loaded)
             last.shelf written at.waits (subst (λ (s : ShelfView). GaveMore s last.shelf) (shelf_kept manifests) gave)
-            (subst (λ (id : ManifestId). HasPutSome id chunks (located manifests) progress.end n.room (after_loads progress.shelf the_kept manifests) last.shelf) at.manifest
-            (subst (λ (r : ℕ). HasPutSome chosen.choice.manifest chunks (located manifests) progress.end r (after_loads progress.shelf the_kept manifests) last.shelf) room_is
-            (subst (λ (s : ShelfView). HasPutSome chosen.choice.manifest chunks (located manifests) progress.end room s last.shelf) (shelf_kept manifests) some))))
+            (subst (λ (id : ManifestId). HasPutSome id chunks (located manifests) progress.end n.room written (after_loads progress.shelf the_kept manifests) last.shelf) at.manifest
+            (subst (λ (r : ℕ). HasPutSome chosen.choice.manifest chunks (located manifests) progress.end r written (after_loads progress.shelf the_kept manifests) last.shelf) room_is
+            (subst (λ (s : ShelfView). HasPutSome chosen.choice.manifest chunks (located manifests) progress.end room written s last.shelf) (shelf_kept manifests) some))))
 
-        unstored-ends : (last : Progress) (fault : BackupFault) → NotStoredFor chunks chosen.choice room progress last fault → Ended (made author (Abort session last.end.containers written) ∷ the_past) last.shelf
-        unstored-ends last fault (not_tried is same) = same-ends last (ap (λ (p : Progress). p.end) same) (gave_same progress.shelf last.shelf (ap (λ (p : Progress). p.shelf.gave) same)) (ap (λ (p : Progress). p.shelf.held) same)
-        unstored-ends last fault (not_loaded cause is same failed) = same-ends last (ap (λ (p : Progress). p.end) same) (stopped_loads-gave progress.shelf last.shelf chosen.choice.champions.items cause failed) (stopped_loads-held progress.shelf last.shelf chosen.choice.champions.items cause failed)
-        unstored-ends last fault (not_stored manifests cause is loaded (not_planned is_memory same)) =
+        as_before : (last : Progress) → written ≡ last.texts → last.texts ≡ progress.texts → length front ≤ written
+        as_before last is same = let texts = at.texts_are in omega (arith, is, same, texts)
+
+        seq_is : chosen.choice.manifest.seq ≡ length front
+        seq_is = ap (λ (id : ManifestId). id.seq) at.manifest
+
+        one_tried : (last : Progress) → written ≡ last.texts → last.texts ≡ progress.texts + 1 → chosen.choice.manifest.seq + 1 ≤ written
+        one_tried last is more = let texts = at.texts_are in let seq = seq_is in omega (arith, is, more, texts, seq)
+
+        unstored-ends : (last : Progress) (fault : BackupFault) → written ≡ last.texts → NotStoredFor chunks chosen.choice room progress last fault → Ended (made author (Abort session last.end.containers written) ∷ the_past) last.shelf
+        unstored-ends last fault texts (not_tried is same) = same-ends last (ap (λ (p : Progress). p.end) same) (as_before last texts (ap (λ (p : Progress). p.texts) same)) (gave_same progress.shelf last.shelf (ap (λ (p : Progress). p.shelf.gave) same)) (ap (λ (p : Progress). p.shelf.held) same)
+        unstored-ends last fault texts (not_loaded cause is same failed) = same-ends last (ap (λ (p : Progress). p.end) same) (as_before last texts (ap (λ (p : Progress). p.texts) same)) (stopped_loads-gave progress.shelf last.shelf chosen.choice.champions.items cause failed) (stopped_loads-held progress.shelf last.shelf chosen.choice.champions.items cause failed)
+        unstored-ends last fault texts (not_stored manifests cause is loaded (not_planned is_memory same)) =
             let between = after_loads progress.shelf chosen.choice.champions.items manifests in
-            same-ends last (ap (λ (p : Progress). p.end) same)
+            same-ends last (ap (λ (p : Progress). p.end) same) (as_before last texts (ap (λ (p : Progress). p.texts) same))
             (gave_then progress.shelf between last.shelf (loads_gave progress.shelf chosen.choice.champions.items manifests) (gave_same between last.shelf (ap (λ (p : Progress). p.shelf.gave) same)))
             (ap (λ (p : Progress). p.shelf.held) same ∙ loads_held progress.shelf chosen.choice.champions.items manifests)
-        unstored-ends last fault (not_stored manifests cause is loaded (put_failed end_is texts_are failed)) =
+        unstored-ends last fault texts (not_stored manifests cause is loaded (put_failed end_is texts_are failed)) =
+            let least = as_before last texts texts_are in
+            let seq = seq_is in
             let between = after_loads progress.shelf chosen.choice.champions.items manifests in
             laid-ends last manifests loaded end_is
             (gave_same between last.shelf (stopped_puts-gave between last.shelf (puts_against chunks (located manifests) progress.end room) cause failed))
-            (stopped cause failed)
-        unstored-ends last fault (not_stored manifests cause is loaded (write_failed end_is texts_are failed)) =
+            (stopped cause (omega (arith, least, seq)) failed)
+        unstored-ends last fault texts (not_stored manifests cause is loaded (write_failed end_is texts_are failed)) =
             let between = after_loads progress.shelf chosen.choice.champions.items manifests in
             let puts = puts_against chunks (located manifests) progress.end room in
             laid-ends last manifests loaded end_is
             (gave_same between last.shelf (ap (λ (s : ShelfView). s.gave) failed.others ∙ puts_gave between puts))
-            (unwritten cause failed)
+            (unwritten cause (one_tried last texts texts_are) failed)
 
-        uncommitted-ends : (last : Progress) (stored : Stored) (written_view : WrittenView) → IsStoredFor chunks chosen.choice room progress last stored written_view → Ended (made author (Abort session last.end.containers written) ∷ the_past) last.shelf
-        uncommitted-ends last stored written_view stores =
+        uncommitted-ends : (last : Progress) (stored : Stored) (written_view : WrittenView) → written ≡ last.texts → IsStoredFor chunks chosen.choice room progress last stored written_view → Ended (made author (Abort session last.end.containers written) ∷ the_past) last.shelf
+        uncommitted-ends last stored written_view texts stores =
             let between = after_loads progress.shelf chosen.choice.champions.items stores.manifests in
             laid-ends last stores.manifests stores.loaded stores.stored_is.end
             (gave_same between last.shelf (ap (λ (s : ShelfView). s.gave) stores.stored_is.shelf ∙ segment_gave between chosen.choice.manifest chunks (located stores.manifests) progress.end room))
-            (all_done stores.stored_is.shelf)
+            (all_done (one_tried last texts stores.stored_is.texts) stores.stored_is.shelf)
 
       chosen-ended : (after : IdleView) (shelf : ShelfView) (fault : BackupFault) → HasGivenUpChosen alone standings champions chunks room chosen progress after shelf fault → Ended (past_of after.seen) shelf
       chosen-ended after shelf fault (unstored last same not gives) =
@@ -189,7 +207,7 @@ module _ (n : Numbers) (streams : Streams) (older : List Entry) (author session 
           let legal = legal_chosen standings champions author chosen.seen session chosen.choice last.end.containers last.texts after is in
           let added = aborted_chosen standings champions author chosen.seen session chosen.choice last.end.containers last.texts after is in
           subst (λ (s : ShelfView). Ended (past_of after.seen) s) (sym same)
-          (subst (λ (p : List Entry). Ended p last.shelf) (sym added.past) (unstored-ends legal last.texts last fault not))
+          (subst (λ (p : List Entry). Ended p last.shelf) (sym added.past) (unstored-ends legal last.texts last fault refl not))
       chosen-ended after shelf fault (uncommitted last stored written back cause same is stores refused gives) =
           let back_is = not_committed standings champions author chosen.seen session chosen.choice stored back cause
           (subst (λ (t : ChosenView). HasNotCommitted alone standings champions t stored back cause) caller_is refused) in
@@ -197,7 +215,7 @@ module _ (n : Numbers) (streams : Streams) (older : List Entry) (author session 
           let legal = legal_chosen standings champions author chosen.seen session chosen.choice last.end.containers last.texts after ends in
           let added = aborted_chosen standings champions author chosen.seen session chosen.choice last.end.containers last.texts after ends in
           subst (λ (s : ShelfView). Ended (past_of after.seen) s) (sym same)
-          (subst (λ (p : List Entry). Ended p last.shelf) (sym added.past) (uncommitted-ends legal last.texts last stored written stores))
+          (subst (λ (p : List Entry). Ended p last.shelf) (sym added.past) (uncommitted-ends legal last.texts last stored written refl stores))
 
   -- ---- how the session ends without a choice
 
@@ -214,7 +232,7 @@ module _ (n : Numbers) (streams : Streams) (older : List Entry) (author session 
         let added = aborted standings champions author the_seen session before.progress.end.containers before.progress.texts after is in
         subst (λ (p : List Entry). Ended p shelf) (sym added.past)
         (given_up_so n streams older author session Told Allowed telling count (past_of the_seen) before.progress.shelf before.progress.end at.so shelf
-        (gave_same before.progress.shelf shelf (ap (λ (s : ShelfView). s.gave) same)) (ap (λ (s : ShelfView). s.held) same) before.progress.texts)
+        (gave_same before.progress.shelf shelf (ap (λ (s : ShelfView). s.gave) same)) (ap (λ (s : ShelfView). s.held) same) before.progress.texts (let texts = at.texts_are in omega (arith, texts)))
 
     pub finish-ended : (shelf : ShelfView) → shelf ≡ before.progress.shelf → HasFinished alone standings champions before.caller before.progress.end.containers after → Ended (past_of after.seen) shelf
     finish-ended shelf same gives =
@@ -238,7 +256,7 @@ module _ (n : Numbers) (streams : Streams) (older : List Entry) (author session 
 
     pub waits_so : (chosen : ChosenView) → HasChosen alone standings champions before.caller wanted chosen → WaitsSo (length front) chosen before.progress
     waits_so chosen chooses =
-        choice-so (length front) wanted seen before.progress chosen at.same_numbers at.so
+        choice-so (length front) wanted seen before.progress chosen at.same_numbers at.so at.texts_are
         (subst (λ (t : OpenView). HasChosen alone standings champions t wanted chosen) caller_at chooses)
 
     room_same : (numbers_of seen.profile).room ≡ n.room

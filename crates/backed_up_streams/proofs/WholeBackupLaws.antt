@@ -162,15 +162,15 @@ module _ (n : Numbers) (sound : AreSound n) (rules : Rules) (streams : Streams) 
           let (told, held_is, put) = put-laid n streams session past chunks against before now low few held facts.hold in
           record { told = told; held_is = held_is; grow = record { others = put.others; grown = put.grown } }
 
-      left_so : (after : ShelfView) → HasPutSome next chunks against (end_of session (plans_of n streams past)) n.room before after → IsKeptThen now after
+      left_so : (written : ℕ) (after : ShelfView) → HasPutSome next chunks against (end_of session (plans_of n streams past)) n.room written before after → IsKeptThen now after
       unfolding containers_of
-      left_so after (stopped trouble failed) =
+      left_so written after (stopped trouble least failed) =
           let grown = put-stopped n streams session past chunks against before now low after trouble few held failed in
           record { later = grown.now; held_is = grown.held_is; wanted = keeps_wanted now grown.now grown.now grown.grow (λ q differ. refl); others = grown.grow.others.rest }
-      left_so after (unwritten trouble failed) =
+      left_so written after (unwritten trouble least failed) =
           let put = put_then in
           create_left now put.told (text_against chunks against (end_of session (plans_of n streams past)) n.room) (after_puts before (puts_against chunks against (end_of session (plans_of n streams past)) n.room)) after put.grow put.held_is failed.objects
-      left_so after (all_done done) =
+      left_so written after (all_done least done) =
           let put = put_then in
           let text = text_against chunks against (end_of session (plans_of n streams past)) n.room in
           let made_then = after_puts before (puts_against chunks against (end_of session (plans_of n streams past)) n.room) in
@@ -215,14 +215,14 @@ module _ (n : Numbers) (sound : AreSound n) (rules : Rules) (streams : Streams) 
       others : (name : List ℕ) → IsNoObject name → bytes_of later name ≡ bytes_of first name
 
     left_now : IsLeft n author session ended.count ended.last ended.then_plans ended.then_shelf after → IsLater
-    left_now (untouched same) = record { later = ended.told.now; held_is = same ∙ ended.told.held_is; whole = facts_then.whole; others = facts_then.others }
+    left_now (untouched same closes) = record { later = ended.told.now; held_is = same ∙ ended.told.held_is; whole = facts_then.whole; others = facts_then.others }
     left_now (put_some chunks against written last_is some) =
         let at_plans = subst (λ (ps : List Planned). ended.last ≡ made author (Abort session (end_against chunks against (end_of session ps) n.room).containers written)) facts_then.planned last_is in
-        let some_then = subst (λ (ps : List Planned). HasPutSome (record { session = session; seq = ended.count }) chunks against (end_of session ps) n.room ended.then_shelf after) facts_then.planned some in
+        let some_then = subst (λ (ps : List Planned). HasPutSome (record { session = session; seq = ended.count }) chunks against (end_of session ps) n.room written ended.then_shelf after) facts_then.planned some in
         let facts = subst (λ (ps : List Planned). FactsOf before_last ps ended.told.now) facts_then.planned facts_then in
         let low = abort_low ended.last (end_against chunks against (end_of session (plans_of n streams before_last)) n.room).containers written (All-head IsEntry ended.last before_last allowed_now.entries) at_plans in
         let few = low.1 in
-        let kept = left_so before_last then_allowed ended.count ended.counted low.0 ended.told.now ended.then_shelf ended.told.held_is facts chunks against (omega (arith, few)) after some_then in
+        let kept = left_so before_last then_allowed ended.count ended.counted low.0 ended.told.now ended.then_shelf ended.told.held_is facts chunks against (omega (arith, few)) written after some_then in
         record {
           later = kept.later;
           held_is = kept.held_is;

@@ -6,3 +6,4 @@ pub mod OfInput
 pub mod Loaded
 pub mod WholeThen
 pub mod NoDamage
+pub mod Created

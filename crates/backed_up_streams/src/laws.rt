@@ -23,6 +23,7 @@ ghost use Rattle.backed_up_streams.specs.OfInput.{IsOfInput};
 ghost use Rattle.backed_up_streams.specs.Loaded.{HasLoaded, ReadsMore};
 ghost use Rattle.backed_up_streams.specs.WholeThen.{IsWholeThen};
 ghost use Rattle.backed_up_streams.specs.NoDamage.{TellsNoDamage};
+ghost use Rattle.backed_up_streams.specs.Created.{CreatesKnown};
 
 /// A backup by a caller alone, whatever it answers, where its input's shelf tells its objects and the stream of the
 /// session that it began, if any, is the input's bytes: behind a history whose choices and commits are those of its
@@ -94,6 +95,18 @@ pub fn whole_of_a_backup()
         → IsOfStreams (numbers_of before.seen.profile) streams (past_of before.seen)
         → IsWhole (numbers_of before.seen.profile) streams (past_of before.seen) stored
         → IsWholeThen (numbers_of before.seen.profile) streams (past_of after.seen) stored depot' }
+{}
+
+/// Each object that the depot tells behind such a backup, whatever it answered, was there before, or is one that the
+/// history knows of: of a session that was closed, a container or a manifest with a number below those it ended with. It
+/// runs nothing.
+pub fn objects_of_a_backup()
+    ensures { (objects stored : Objects) (rules : Rules) (standings champions : ℕ) (files : ShelfView) (input name : List ℕ) (before : IdleView) (depot : ShelfView) (after : IdleView) (depot' : ShelfView) (result : Result ℕ BackupFault)
+        → BackupAnswer (λ came. came ≡ []) standings champions files input name before depot after depot' result
+        → files.held ≡ Some objects
+        → depot.held ≡ Some stored
+        → is_legal rules (past_of after.seen) ≡ true
+        → CreatesKnown (past_of after.seen) stored depot' }
 {}
 
 /// Over a depot that is whole for a history of the streams no such backup fails for damage: no champion's manifest has

@@ -8,6 +8,7 @@ fn each_law_is_called(_rt: HostRuntime) -> Result<(), Fail> {
     loads_of_a_backup();
     streams_of_a_backup();
     whole_of_a_backup();
+    objects_of_a_backup();
     whole_depots_show_no_damage();
     collisions_stay();
     Ok(())

@@ -6,3 +6,4 @@ pub mod RunLaws
 pub mod WholeRunLaws
 pub mod ClosedLaws
 pub mod WholeAnswerLaws
+pub mod MadeLaws

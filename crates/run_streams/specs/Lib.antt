@@ -1,3 +1,4 @@
 pub mod RunStreams
 pub mod WholeStores
 pub mod Answered
+pub mod Made

@@ -26,6 +26,7 @@ ghost use Rattle.job_script.specs.declared.job.JobKind.TheVariants.{Backup, Rest
 ghost use Rattle.store_run.specs.JobRun.{HasDoneJob};
 ghost use Rattle.store_run.specs.Opening.{store_of};
 ghost use Rattle.run_streams.specs.Answered.{IsNoFault};
+ghost use Rattle.run_streams.specs.Made.{MakesKnown};
 ghost use Rattle.run_streams.specs.RunStreams.{HasInput};
 ghost use Rattle.run_streams.specs.WholeStores.{IsWholeStore, KeepsStore, KeepStore};
 
@@ -84,6 +85,16 @@ pub fn closed_by_a_run()
     ensures { (kind : JobKind) (before after : Shelves) (sink sink' : SinkView) (status : ℕ)
         → (done : HasDoneJob kind before after sink sink' status)
         → NoneIs (has_session done.new) × NoneIs (has_reading done.new) }
+{}
+
+/// Each object that a run of a job makes in the depot is the journal, or known by the history that it leaves. It runs
+/// nothing.
+pub fn objects_of_a_run()
+    ensures { (kind : JobKind) (objects files : Objects) (before after : Shelves) (sink sink' : SinkView) (status : ℕ)
+        → (done : HasDoneJob kind before after sink sink' status)
+        → before.depot.held ≡ Some objects
+        → before.files.held ≡ Some files
+        → MakesKnown (past_of done.new) objects after.depot }
 {}
 
 /// A store without entries is whole. Runs whose entries were kept leave a store whole whose depot was whole: its journal is

@@ -6,6 +6,7 @@ use std::test::Fail;
 fn each_law_is_called(_rt: HostRuntime) -> Result<(), Fail> {
     restored_by_a_run();
     fronts_by_a_run();
+    objects_of_a_run();
     streams_of_a_run();
     stores_stay_whole();
     closed_by_a_run();
