@@ -25,21 +25,21 @@ use Rattle.segment_store.specs.Loads.{after_load, after_loads, IsStopped}
 use Rattle.segment_store.specs.Stored.{after_segment}
 
 -- a told list with some more
-abbrev pub with_more : Option (List Given) → List Given → Option (List Given)
-with_more told reads = option_map (λ (xs : List Given). xs ++ reads) told
+abbrev pub with_more : {X : Type 0} → Option (List X) → List X → Option (List X)
+with_more told more = option_map (λ xs. xs ++ more) told
 
 -- from one to the other some reads were made
 pub record GaveMore (before after : ShelfView) : Type 0 where
   pub reads : List Given
   pub gave : after.gave ≡ with_more before.gave reads
 
-more_none : (told : Option (List Given)) → told ≡ with_more told []
+pub more_none : {X : Type 0} (told : Option (List X)) → told ≡ with_more told []
 more_none None = refl
-more_none (Some xs) = ap (λ (ys : List Given). Some ys) (sym (append-nil xs))
+more_none (Some xs) = ap Some (sym (append-nil xs))
 
-pub more_then : (told : Option (List Given)) (xs ys : List Given) → with_more (with_more told xs) ys ≡ with_more told (xs ++ ys)
+pub more_then : {X : Type 0} (told : Option (List X)) (xs ys : List X) → with_more (with_more told xs) ys ≡ with_more told (xs ++ ys)
 more_then None xs ys = refl
-more_then (Some told) xs ys = ap (λ (zs : List Given). Some zs) (append_assoc told xs ys)
+more_then (Some told) xs ys = ap Some (append_assoc told xs ys)
 
 pub gave_none : (shelf : ShelfView) → shelf.gave ≡ with_more shelf.gave []
 gave_none shelf = more_none shelf.gave

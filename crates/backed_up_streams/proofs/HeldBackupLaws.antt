@@ -38,26 +38,30 @@ use Rattle.backed_up_streams.proofs.BackupLaws.{not_begun, finished-of_input, fa
 use Rattle.backed_up_streams.proofs.RunLaws.{finished-run, failed-run}
 
 module _ (n : Numbers) (streams : Streams) (older : List Entry) (author session : ℕ) (objects : Objects) where
-  abbrev Holds : List (List ℕ) → List Entry → List Planned → ShelfView → Type 0
+  abbrev pub Holds : List (List ℕ) → List Entry → List Planned → ShelfView → Type 0
   Holds = HeldSo n streams older author session objects
 
   still_held : (past now : List Entry) (b : List ℕ) → ((id : ManifestId) → kept id now ≡ kept id past) → IsTextHeld objects past b → IsTextHeld objects now b
   still_held past now b same was = record { view = was.view; is_kept = same was.view.id ∙ was.is_kept; text = was.text }
 
-  ended-held : (past : List Entry) (depot' : ShelfView) → HasEnded n streams older author session Holds (All IsEntry) (is_holding n streams older author session objects) past depot' → All IsEntry past
+  -- the texts that were loaded are among what it held at first
+  pub texts_held : (past : List Entry) (depot' : ShelfView) (is : HasEnded n streams older author session Holds (All IsEntry) (is_holding n streams older author session objects) past depot') → All IsEntry past
+      → (b : List ℕ) → In b is.texts → IsGiven (held objects ∷ []) past b
+  texts_held past depot' is entries b there =
+      let entries_now = subst (λ (p : List Entry). All IsEntry p) is.past_is entries in
+      let facts = is.told.facts (All-tail IsEntry is.last (is.then_newer ++ older) entries_now) in
+      inl (inl (subst (λ (p : List Entry). IsTextHeld objects p b) (sym is.past_is)
+      (still_held (is.then_newer ++ older) (is.last ∷ (is.then_newer ++ older)) b (λ id. kept_older id is.last (is.then_newer ++ older) (is.commits_none id)) (facts.texts_held b there))))
+
+  pub ended-held : (past : List Entry) (depot' : ShelfView) → HasEnded n streams older author session Holds (All IsEntry) (is_holding n streams older author session objects) past depot' → All IsEntry past
       → HasLoaded n streams (held objects ∷ []) older past
   ended-held past depot' is entries =
       let entries_now = subst (λ (p : List Entry). All IsEntry p) is.past_is entries in
-      let past_now = is.last ∷ (is.then_newer ++ older) in
-      let facts = is.told.facts (All-tail IsEntry is.last (is.then_newer ++ older) entries_now) in
-      let there : (b : List ℕ) → In b is.texts → IsGiven (held objects ∷ []) past b =
-      λ b h. inl (inl (subst (λ (p : List Entry). IsTextHeld objects p b) (sym is.past_is)
-      (still_held (is.then_newer ++ older) past_now b (λ id. kept_older id is.last (is.then_newer ++ older) (is.commits_none id)) (facts.texts_held b h)))) in
       record {
         newer = is.last ∷ is.then_newer;
         past_is = is.past_is;
         loads = is.loads;
-        stores = stores_weaker (λ b. In b is.texts) (IsGiven (held objects ∷ []) past) there n streams is.loads (is.last ∷ is.then_newer) older (is.stores entries_now is.texts (λ b h. h));
+        stores = stores_weaker (λ b. In b is.texts) (IsGiven (held objects ∷ []) past) (texts_held past depot' is entries) n streams is.loads (is.last ∷ is.then_newer) older (is.stores entries_now is.texts (λ b h. h));
       }
 
   -- before anything is stored
@@ -97,7 +101,7 @@ module _ (standings champions : ℕ) (files : ShelfView) (input name : List ℕ)
     abbrev session : ℕ
     session = started.caller.session
 
-    at_first : HeldSo n streams older before.author session stored [] (made before.author (Begin name (Some session)) ∷ []) (plans_of n streams older) depot
+    pub at_first : HeldSo n streams older before.author session stored [] (made before.author (Begin name (Some session)) ∷ []) (plans_of n streams older) depot
     at_first =
         held_at_first n streams older before.author session stored (rules_of standings champions before.seen) name
         (legal_at standings champions before.author before.seen (λ turn. BeginAnswer turn started.caller.seen before.author name (Ok session)) started.begun.at_turn)

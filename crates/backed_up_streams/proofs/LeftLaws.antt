@@ -1,5 +1,5 @@
 -- What the end of a session leaves of its depot.
-use Rattle.std.proofs.Common.{◌≡◌, ℕ, ◌+◌, ◌≤◌, List, [], ◌∷◌, Err, refl, ap, ◌∙◌, inl, inr}
+use Rattle.std.proofs.Common.{◌≡◌, ℕ, ◌+◌, ◌*◌, ◌≤◌, List, [], ◌∷◌, Err, refl, ap, ◌∙◌, inl, inr}
 use Rattle.ss_base.specs.declared.ids.ManifestId.{ManifestId}
 use Rattle.ss_base.specs.declared.object.Object.TheVariants.{Manifest as ManifestObject}
 use Rattle.ss_base.specs.declared.profile.Numbers.{Numbers}
@@ -15,7 +15,7 @@ use Rattle.journal_entry.specs.declared.entry.Point.TheVariants.{Finish, Abort}
 use Rattle.store_core.specs.View.{KeptView, made}
 use Rattle.depot.specs.declared.fault.LoadFault.{LoadFault}
 use Rattle.depot.specs.declared.fault.LoadFault.TheVariants.{Shelf, Damaged, Unlike, Memory}
-use Rattle.depot.specs.Calls.{HasFailed}
+use Rattle.depot.specs.Calls.{HasRead, HasFailed}
 use Rattle.depot.specs.Loading.{LoadAnswer}
 use Rattle.depot.specs.Storing.{after_puts}
 use Rattle.depot.specs.Storing.{IsStopped as IsPutStopped}
@@ -41,6 +41,41 @@ failed_load-held before after kept Memory (inr (given, has)) = ap (λ (s : Shelf
 pub stopped_loads-held : (before after : ShelfView) (kepts : List KeptView) (fault : LoadFault) → IsStopped before after kepts fault → after.held ≡ before.held
 stopped_loads-held before after kepts fault is =
     failed_load-held (after_loads before is.done is.manifests) after is.kept fault is.failed ∙ loads_held before is.done is.manifests
+
+-- nor do they write or erase
+
+pub record IsUnwritten (before after : ShelfView) : Type 0 where
+  pub wrote : after.wrote ≡ before.wrote
+  pub erased : after.erased ≡ before.erased
+
+pub same_unwritten : (before after : ShelfView) → after ≡ before → IsUnwritten before after
+same_unwritten before after same = record { wrote = ap (λ (s : ShelfView). s.wrote) same; erased = ap (λ (s : ShelfView). s.erased) same }
+
+pub unwritten_then : (one two three : ShelfView) → IsUnwritten one two → IsUnwritten two three → IsUnwritten one three
+unwritten_then one two three first second = record { wrote = second.wrote ∙ first.wrote; erased = second.erased ∙ first.erased }
+
+pub loads_unwritten : (shelf : ShelfView) (kepts : List KeptView) (manifests : List Manifest) → IsUnwritten shelf (after_loads shelf kepts manifests)
+loads_unwritten shelf [] manifests = record { wrote = refl; erased = refl }
+loads_unwritten shelf (kept ∷ kepts) [] = record { wrote = refl; erased = refl }
+loads_unwritten shelf (kept ∷ kepts) (manifest ∷ manifests) =
+    let rest = loads_unwritten (after_load shelf kept manifest) kepts manifests in
+    record { wrote = rest.wrote; erased = rest.erased }
+
+read_unwritten : (before after : ShelfView) (name : List ℕ) (at max : ℕ) (bytes : List ℕ) → HasRead before after name at max bytes → IsUnwritten before after
+read_unwritten before after name at max bytes has = record { wrote = ap (λ (s : ShelfView). s.wrote) has.call; erased = ap (λ (s : ShelfView). s.erased) has.call }
+
+failed_load-unwritten : (before after : ShelfView) (kept : KeptView) (fault : LoadFault) → LoadAnswer before after kept (Err fault) → IsUnwritten before after
+failed_load-unwritten before after kept Shelf has = record { wrote = ap (λ (s : ShelfView). s.wrote) has.call; erased = ap (λ (s : ShelfView). s.erased) has.call }
+failed_load-unwritten before after kept (Damaged want got) has = read_unwritten before after (object_text (ManifestObject kept.id)) 0 (48 * kept.chunks) has.bytes has.given
+failed_load-unwritten before after kept (Unlike text) has = read_unwritten before after (object_text (ManifestObject kept.id)) 0 (48 * kept.chunks) has.bytes has.given
+failed_load-unwritten before after kept Memory (inl (inl same)) = same_unwritten before after same
+failed_load-unwritten before after kept Memory (inl (inr same)) = record { wrote = ap (λ (s : ShelfView). s.wrote) same; erased = ap (λ (s : ShelfView). s.erased) same }
+failed_load-unwritten before after kept Memory (inr (given, has)) = read_unwritten before after (object_text (ManifestObject kept.id)) 0 (48 * kept.chunks) given has
+
+pub stopped_loads-unwritten : (before after : ShelfView) (kepts : List KeptView) (fault : LoadFault) → IsStopped before after kepts fault → IsUnwritten before after
+stopped_loads-unwritten before after kepts fault is =
+    let between = after_loads before is.done is.manifests in
+    unwritten_then before between after (loads_unwritten before is.done is.manifests) (failed_load-unwritten between after is.kept fault is.failed)
 
 -- ---- a segment that was not committed
 

@@ -19,3 +19,5 @@ pub mod WholeBackupLaws
 pub mod DamageLaws
 pub mod CreatedLaws
 pub mod CreatedBackupLaws
+pub mod WroteLaws
+pub mod WroteBackupLaws

@@ -37,7 +37,7 @@ use Rattle.stored_streams.specs.Loads.{Loads, loaded_after, loaded_plans, IsLoad
 use Rattle.stored_streams.proofs.PlanLaws.{end_own}
 use Rattle.backed_up_streams.proofs.ContentLaws.{self}
 use Rattle.backed_up_streams.proofs.GaveLaws.{GaveMore}
-use Rattle.backed_up_streams.proofs.LeftLaws.{HasPutSome, Closes, IsLeft}
+use Rattle.backed_up_streams.proofs.LeftLaws.{IsUnwritten, HasPutSome, Closes, IsLeft}
 use Rattle.backed_up_streams.proofs.LeftLaws.Closes.{by_finish, by_abort}
 use Rattle.backed_up_streams.proofs.LeftLaws.IsLeft.{untouched, put_some}
 use Rattle.backed_up_streams.proofs.SegmentLaws.{item_behind, next_chunks}
@@ -58,6 +58,16 @@ commit_point session seq stored =
 pub live_committed : (id : ManifestId) (past : List Entry) → is_live id past ≡ true → has (commits_manifest id) past ≡ true
 unfolding is_live
 live_committed id past live = (and_parts _ _ live).0
+
+-- something of one more segment was put, for a choice that the last entry gives up
+pub record PutsPending (n : Numbers) (streams : Streams) (older : List Entry) (session : ℕ) (Allowed : List Entry → Type 0) (texts : List (List ℕ)) (newer : List Entry) (plans : List Planned) (count : ℕ) (last : Entry) (shelf after : ShelfView) : Type 0 where
+  pub against : List Located
+  pub containers : ℕ
+  pub written : ℕ
+  pub last_is : last.point ≡ Abort session containers written
+  pub waits : is_pending session (newer ++ older) ≡ true
+  pub loads : Allowed (newer ++ older) → AreLoadsOf n streams (λ b. In b texts) (newer ++ older) plans (pending_champions session (newer ++ older)) against
+  pub some : HasPutSome (record { session = session; seq = count }) (manifest_chunks n streams (record { session = session; seq = count })) against (end_of session plans) n.room written shelf after
 
 module _ (n : Numbers) (streams : Streams) (older : List Entry) (author session : ℕ) (Told : List (List ℕ) → List Entry → List Planned → ShelfView → Type 0) (Allowed : List Entry → Type 0) where
   -- behind one load: the texts that reads gave are these or more, and the loaded one is among them or was planned
@@ -188,9 +198,10 @@ module _ (n : Numbers) (streams : Streams) (older : List Entry) (author session 
       pub told : Told texts then_newer then_plans then_shelf
       pub gave_more : GaveMore then_shelf after
       pub left : IsLeft n author session count last then_plans then_shelf after
+      pub wrote : IsUnwritten then_shelf after ⊎ PutsPending n streams older session Allowed texts then_newer then_plans count last then_shelf after
       pub stores : Allowed (last ∷ (then_newer ++ older)) → (all : List (List ℕ)) → ((b : List ℕ) → In b texts → In b all) → StoresLoaded n streams loads (λ b. In b all) (last ∷ then_newer) older
 
-    module _ (count : ℕ) (past : List Entry) (shelf : ShelfView) (end : ContainerEnd) (so : IsSoFar count past shelf end) (after : ShelfView) (gave : GaveMore shelf after) (held : after.held ≡ shelf.held) where
+    module _ (count : ℕ) (past : List Entry) (shelf : ShelfView) (end : ContainerEnd) (so : IsSoFar count past shelf end) (after : ShelfView) (gave : GaveMore shelf after) (held : after.held ≡ shelf.held) (unwritten : IsUnwritten shelf after) where
       -- with an end that has as many containers as are laid out
       ended : (point : Point) → ((id : ManifestId) → commits_manifest id point ≡ false) → ((all : List (List ℕ)) (plans : List Planned) → end_of session plans ≡ end → LoadedOf n streams (loads_of (so.lists ++ [])) (λ b. In b all) (so.newer ++ older) plans point)
           → ((e : ContainerEnd) → e ≡ end → Closes session e.containers count (made author point)) → HasEnded (made author point ∷ past) after
@@ -208,6 +219,7 @@ module _ (n : Numbers) (streams : Streams) (older : List Entry) (author session 
         told = so.told;
         gave_more = gave;
         left = untouched held (closes (end_of session so.plans) so.end_is);
+        wrote = inl unwritten;
         stores = λ allowed all more.
             let plans = loaded_plans n streams (loads_of (so.lists ++ [])) so.newer older in
             (so.stores (telling.before (made author point) (so.newer ++ older) allowed) [] all more, says all plans (ap (end_of session) (so.plans_are []) ∙ so.end_is));
@@ -336,6 +348,18 @@ module _ (n : Numbers) (streams : Streams) (older : List Entry) (author session 
             put_some chunks against written (ap (λ (e : ContainerEnd). made author (Abort session (end_against chunks against e n.room).containers written)) (sym so.end_is))
             (subst (λ (e : ContainerEnd). HasPutSome next chunks against e n.room written (after_loads shelf (all_kept ids before) manifests) after) (sym so.end_is)
             (subst (λ (p : List Entry). HasPutSome next chunks against end n.room written (after_loads shelf (all_kept ids p) manifests) after) so.past_is some));
+        wrote = inr (record {
+          against = against;
+          containers = (end_against chunks against end n.room).containers;
+          written = written;
+          last_is = refl;
+          waits = subst (λ (p : List Entry). is_pending session p ≡ true) so.past_is waits;
+          loads = loads_for;
+          some =
+              subst (λ (cs : List (List ℕ)). HasPutSome next cs against (end_of session so.plans) n.room written (after_loads shelf (all_kept ids before) manifests) after) (sym the_chunks)
+              (subst (λ (e : ContainerEnd). HasPutSome next chunks against e n.room written (after_loads shelf (all_kept ids before) manifests) after) (sym so.end_is)
+              (subst (λ (p : List Entry). HasPutSome next chunks against end n.room written (after_loads shelf (all_kept ids p) manifests) after) so.past_is some));
+        });
         stores = λ allowed all more.
             let older_allowed = telling.before (give_up written) before allowed in
             let plans = loaded_plans n streams (loads_of (so.lists ++ against ∷ [])) so.newer older in

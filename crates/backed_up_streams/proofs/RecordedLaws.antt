@@ -31,24 +31,24 @@ use Rattle.backed_up_streams.proofs.LoadLaws.{text_loaded, IsTelling, LoadTold, 
 use Rattle.backed_up_streams.proofs.BackupLaws.{finished-of_input, failed-of_input}
 use Rattle.backed_up_streams.proofs.RunLaws.{finished-run, failed-run}
 
-contains_from_in : {X : Type 0} (x : X) (xs : List X) → In x xs → Contains xs x
+pub contains_from_in : {X : Type 0} (x : X) (xs : List X) → In x xs → Contains xs x
 contains_from_in x [] h = absurd h
 contains_from_in x (y ∷ ys) (inl is) = (zero, omega arith, is)
 contains_from_in x (y ∷ ys) (inr later) = let (k, below, is) = contains_from_in x ys later in (suc k, omega (arith, below), is)
 
 -- ---- the reads of a depot
 
-abbrev bytes_given : List Given → List (List ℕ)
+abbrev pub bytes_given : List Given → List (List ℕ)
 bytes_given reads = map (λ (g : Given). g.bytes) reads
 
 -- these texts are those that it gave since
-record GaveSo (depot : ShelfView) (texts : List (List ℕ)) (newer : List Entry) (plans : List Planned) (shelf : ShelfView) : Type 0 where
-  reads : List Given
-  texts_are : bytes_given reads ≡ texts
-  gave : shelf.gave ≡ with_more depot.gave reads
+pub record GaveSo (depot : ShelfView) (texts : List (List ℕ)) (newer : List Entry) (plans : List Planned) (shelf : ShelfView) : Type 0 where
+  pub reads : List Given
+  pub texts_are : bytes_given reads ≡ texts
+  pub gave : shelf.gave ≡ with_more depot.gave reads
 
 module _ (n : Numbers) (streams : Streams) (older : List Entry) (author session : ℕ) (depot : ShelfView) where
-  abbrev Gave : List (List ℕ) → List Entry → List Planned → ShelfView → Type 0
+  abbrev pub Gave : List (List ℕ) → List Entry → List Planned → ShelfView → Type 0
   Gave = GaveSo depot
 
   load_gave : (texts : List (List ℕ)) (newer : List Entry) (plans : List Planned) (shelf : ShelfView) (view : KeptView) (manifest : Manifest) → Gave texts newer plans shelf
@@ -67,7 +67,7 @@ module _ (n : Numbers) (streams : Streams) (older : List Entry) (author session 
         source = λ allowed. inl (in_append_right text texts (text ∷ []) (inl refl));
       }
 
-  is_telling : IsTelling n streams older author session Gave (λ past. Unit {0})
+  pub is_telling : IsTelling n streams older author session Gave (λ past. Unit {0})
   is_telling = record {
     before = λ entry past allowed. tt;
     load = λ texts newer plans shelf view manifest live kept_is loaded so. load_gave texts newer plans shelf view manifest so;
@@ -79,7 +79,7 @@ module _ (n : Numbers) (streams : Streams) (older : List Entry) (author session 
     };
   }
 
-  at_first : (newer : List Entry) (plans : List Planned) → Gave [] newer plans depot
+  pub at_first : (newer : List Entry) (plans : List Planned) → Gave [] newer plans depot
   at_first newer plans = let none = gave_none depot in record { reads = []; texts_are = refl; gave = none }
 
   -- what its reads gave, at the end of a session
@@ -88,14 +88,19 @@ module _ (n : Numbers) (streams : Streams) (older : List Entry) (author session 
     pub more : ReadsMore depot depot' reads
     pub loaded : HasLoaded n streams (recorded reads ∷ []) older past
 
-  ended-recorded : (past : List Entry) (depot' : ShelfView) → HasEnded n streams older author session Gave (λ past. Unit {0}) is_telling past depot' → Recorded past depot'
+  -- the texts that were loaded are among what its reads gave
+  pub texts_recorded : (past : List Entry) (depot' : ShelfView) (is : HasEnded n streams older author session Gave (λ past. Unit {0}) is_telling past depot') → (b : List ℕ) → In b is.texts → In b (bytes_given (is.told.reads ++ is.gave_more.reads))
+  texts_recorded past depot' is b there =
+      let first = is.told.reads in
+      let last = is.gave_more.reads in
+      subst (λ (ts : List (List ℕ)). In b ts) (sym (map-append (λ (g : Given). g.bytes) first last))
+      (in_append_left b (bytes_given first) (bytes_given last) (subst (λ (ts : List (List ℕ)). In b ts) (sym is.told.texts_are) there))
+
+  abbrev pub ended-recorded : (past : List Entry) (depot' : ShelfView) → HasEnded n streams older author session Gave (λ past. Unit {0}) is_telling past depot' → Recorded past depot'
   ended-recorded past depot' is =
       let first = is.told.reads in
       let last = is.gave_more.reads in
       let reads = first ++ last in
-      let there : (b : List ℕ) → In b is.texts → In b (bytes_given reads) =
-      λ b h. subst (λ (ts : List (List ℕ)). In b ts) (sym (map-append (λ (g : Given). g.bytes) first last))
-      (in_append_left b (bytes_given first) (bytes_given last) (subst (λ (ts : List (List ℕ)). In b ts) (sym is.told.texts_are) h)) in
       record {
         reads = reads;
         more = is.gave_more.gave ∙ ap (λ (told : Option (List Given)). with_more told last) is.told.gave ∙ more_then depot.gave first last;
@@ -105,7 +110,7 @@ module _ (n : Numbers) (streams : Streams) (older : List Entry) (author session 
           loads = is.loads;
           stores =
               stores_weaker (λ b. In b (bytes_given reads)) (IsGiven (recorded reads ∷ []) past) (λ b h. inl (contains_from_in b (bytes_given reads) h)) n streams is.loads (is.last ∷ is.then_newer) older
-              (is.stores tt (bytes_given reads) there);
+              (is.stores tt (bytes_given reads) (texts_recorded past depot' is));
         };
       }
 

@@ -37,7 +37,7 @@ use Rattle.stored_streams.specs.Plans.{Planned}
 use Rattle.backed_up_streams.proofs.AloneLaws.{alone, open_at, chosen_at, is_open_at, is_chosen_at, chose, committed, not_chosen, not_committed, finished, aborted, aborted_chosen, legal_chosen}
 use Rattle.backed_up_streams.proofs.KeptLaws.{all_kept_behind, champions_behind, waits_behind}
 use Rattle.backed_up_streams.proofs.GaveLaws.{GaveMore, gave_same, gave_then, loads_gave, stopped_loads-gave, stopped_puts-gave, puts_gave, segment_gave}
-use Rattle.backed_up_streams.proofs.LeftLaws.{loads_held, stopped_loads-held, HasPutSome}
+use Rattle.backed_up_streams.proofs.LeftLaws.{loads_held, stopped_loads-held, same_unwritten, unwritten_then, loads_unwritten, stopped_loads-unwritten, IsUnwritten, HasPutSome}
 use Rattle.backed_up_streams.proofs.LeftLaws.HasPutSome.{stopped, unwritten, all_done}
 use Rattle.backed_up_streams.proofs.LoadLaws.{commit_point, IsTelling, IsSoFar, HasEnded, chosen_so_far, committed_so_far, finished_so, given_up_so, given_up_pending}
 
@@ -146,10 +146,10 @@ module _ (n : Numbers) (streams : Streams) (older : List Entry) (author session 
 
       module _ (legal : is_legal (rules_of standings champions chosen.seen) the_past ≡ true) (written : ℕ) where
         -- with the containers as before
-        same-ends : (last : Progress) → last.end ≡ progress.end → length front ≤ written → GaveMore progress.shelf last.shelf → last.shelf.held ≡ progress.shelf.held → Ended (made author (Abort session last.end.containers written) ∷ the_past) last.shelf
-        same-ends last end_is least gave held =
+        same-ends : (last : Progress) → last.end ≡ progress.end → length front ≤ written → GaveMore progress.shelf last.shelf → last.shelf.held ≡ progress.shelf.held → IsUnwritten progress.shelf last.shelf → Ended (made author (Abort session last.end.containers written) ∷ the_past) last.shelf
+        same-ends last end_is least gave held wrote_none =
             subst (λ (e : ContainerEnd). Ended (made author (Abort session e.containers written) ∷ the_past) last.shelf) (sym end_is)
-            (given_up_so n streams older author session Told Allowed telling (length front) the_past progress.shelf progress.end at.so last.shelf gave held written least)
+            (given_up_so n streams older author session Told Allowed telling (length front) the_past progress.shelf progress.end at.so last.shelf gave held wrote_none written least)
 
         -- or with those of the segment too
         laid-ends : (last : Progress) (manifests : List Manifest) → AreLoaded progress.shelf chosen.choice.champions.items manifests → last.end ≡ end_against chunks (located manifests) progress.end room
@@ -173,13 +173,14 @@ module _ (n : Numbers) (streams : Streams) (older : List Entry) (author session 
         one_tried last is more = let texts = at.texts_are in let seq = seq_is in omega (arith, is, more, texts, seq)
 
         unstored-ends : (last : Progress) (fault : BackupFault) → written ≡ last.texts → NotStoredFor chunks chosen.choice room progress last fault → Ended (made author (Abort session last.end.containers written) ∷ the_past) last.shelf
-        unstored-ends last fault texts (not_tried is same) = same-ends last (ap (λ (p : Progress). p.end) same) (as_before last texts (ap (λ (p : Progress). p.texts) same)) (gave_same progress.shelf last.shelf (ap (λ (p : Progress). p.shelf.gave) same)) (ap (λ (p : Progress). p.shelf.held) same)
-        unstored-ends last fault texts (not_loaded cause is same failed) = same-ends last (ap (λ (p : Progress). p.end) same) (as_before last texts (ap (λ (p : Progress). p.texts) same)) (stopped_loads-gave progress.shelf last.shelf chosen.choice.champions.items cause failed) (stopped_loads-held progress.shelf last.shelf chosen.choice.champions.items cause failed)
+        unstored-ends last fault texts (not_tried is same) = same-ends last (ap (λ (p : Progress). p.end) same) (as_before last texts (ap (λ (p : Progress). p.texts) same)) (gave_same progress.shelf last.shelf (ap (λ (p : Progress). p.shelf.gave) same)) (ap (λ (p : Progress). p.shelf.held) same) (same_unwritten progress.shelf last.shelf (ap (λ (p : Progress). p.shelf) same))
+        unstored-ends last fault texts (not_loaded cause is same failed) = same-ends last (ap (λ (p : Progress). p.end) same) (as_before last texts (ap (λ (p : Progress). p.texts) same)) (stopped_loads-gave progress.shelf last.shelf chosen.choice.champions.items cause failed) (stopped_loads-held progress.shelf last.shelf chosen.choice.champions.items cause failed) (stopped_loads-unwritten progress.shelf last.shelf chosen.choice.champions.items cause failed)
         unstored-ends last fault texts (not_stored manifests cause is loaded (not_planned is_memory same)) =
             let between = after_loads progress.shelf chosen.choice.champions.items manifests in
             same-ends last (ap (λ (p : Progress). p.end) same) (as_before last texts (ap (λ (p : Progress). p.texts) same))
             (gave_then progress.shelf between last.shelf (loads_gave progress.shelf chosen.choice.champions.items manifests) (gave_same between last.shelf (ap (λ (p : Progress). p.shelf.gave) same)))
             (ap (λ (p : Progress). p.shelf.held) same ∙ loads_held progress.shelf chosen.choice.champions.items manifests)
+            (unwritten_then progress.shelf between last.shelf (loads_unwritten progress.shelf chosen.choice.champions.items manifests) (same_unwritten between last.shelf (ap (λ (p : Progress). p.shelf) same)))
         unstored-ends last fault texts (not_stored manifests cause is loaded (put_failed end_is texts_are failed)) =
             let least = as_before last texts texts_are in
             let seq = seq_is in
@@ -232,7 +233,7 @@ module _ (n : Numbers) (streams : Streams) (older : List Entry) (author session 
         let added = aborted standings champions author the_seen session before.progress.end.containers before.progress.texts after is in
         subst (λ (p : List Entry). Ended p shelf) (sym added.past)
         (given_up_so n streams older author session Told Allowed telling count (past_of the_seen) before.progress.shelf before.progress.end at.so shelf
-        (gave_same before.progress.shelf shelf (ap (λ (s : ShelfView). s.gave) same)) (ap (λ (s : ShelfView). s.held) same) before.progress.texts (let texts = at.texts_are in omega (arith, texts)))
+        (gave_same before.progress.shelf shelf (ap (λ (s : ShelfView). s.gave) same)) (ap (λ (s : ShelfView). s.held) same) (same_unwritten before.progress.shelf shelf same) before.progress.texts (let texts = at.texts_are in omega (arith, texts)))
 
     pub finish-ended : (shelf : ShelfView) → shelf ≡ before.progress.shelf → HasFinished alone standings champions before.caller before.progress.end.containers after → Ended (past_of after.seen) shelf
     finish-ended shelf same gives =
@@ -240,7 +241,7 @@ module _ (n : Numbers) (streams : Streams) (older : List Entry) (author session 
         let added = finished standings champions author the_seen session before.progress.end.containers after is in
         subst (λ (p : List Entry). Ended p shelf) (sym added.past)
         (finished_so n streams older author session Told Allowed telling count (past_of the_seen) before.progress.shelf before.progress.end at.so shelf
-        (gave_same before.progress.shelf shelf (ap (λ (s : ShelfView). s.gave) same)) (ap (λ (s : ShelfView). s.held) same))
+        (gave_same before.progress.shelf shelf (ap (λ (s : ShelfView). s.gave) same)) (ap (λ (s : ShelfView). s.held) same) (same_unwritten before.progress.shelf shelf same))
 
   -- ---- one segment
 

@@ -33,7 +33,7 @@ module _ (given other : List ℕ → Type 0) (weaker : (b : List ℕ) → given 
   load_weaker : (past : List Entry) (plans : List Planned) (id : ManifestId) (l : Located) → IsLoadOf n streams given past plans id l → IsLoadOf n streams other past plans id l
   load_weaker past plans id l is = record { manifest = is.manifest; digest = is.digest; source = elim is.source [ inl read ↦ inl (weaker (manifest_text l.pieces l.places) read) | inr planned ↦ inr planned ] }
 
-  loads_weaker : (past : List Entry) (plans : List Planned) (ids : List ManifestId) (ls : List Located) → AreLoadsOf n streams given past plans ids ls → AreLoadsOf n streams other past plans ids ls
+  pub loads_weaker : (past : List Entry) (plans : List Planned) (ids : List ManifestId) (ls : List Located) → AreLoadsOf n streams given past plans ids ls → AreLoadsOf n streams other past plans ids ls
   loads_weaker past plans [] [] are = are
   loads_weaker past plans [] (l ∷ ls) are = absurd are
   loads_weaker past plans (id ∷ ids) [] are = absurd are

@@ -7,3 +7,4 @@ pub mod Loaded
 pub mod WholeThen
 pub mod NoDamage
 pub mod Created
+pub mod Wrote

@@ -10,6 +10,7 @@ fn each_law_is_called(_rt: HostRuntime) -> Result<(), Fail> {
     whole_of_a_backup();
     objects_of_a_backup();
     whole_depots_show_no_damage();
+    written_by_a_backup();
     collisions_stay();
     Ok(())
 }

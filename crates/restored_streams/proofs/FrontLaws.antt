@@ -97,7 +97,7 @@ module _ (C : Type 0) (n : Numbers) (streams : Streams) (rules : Rules) (past : 
 
   -- where what is read of each manifest begins its segment, or there is a collision
   stop_front : ((ms : List ManifestRead) → GaveMore (after_manifests before.depot ms) after.depot → EachBegins C n streams past before.depot ms s) → Stop output before after (stream_kept s past) → HoldsFront output before.files after.files (streams s) ⊎ C
-  stop_front each (unmade leaves) = inl (not_made leaves)
+  stop_front each (unmade leaves gave) = inl (not_made leaves)
   stop_front each (behind done rest split are gave front) = behind_front done rest split are (each done gave) front
   stop_front each (within done m left rest split are part gave front) =
       within_front done m left rest split are part

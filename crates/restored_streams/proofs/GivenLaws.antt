@@ -30,7 +30,7 @@ use Rattle.restored_streams.proofs.StopLaws.{GaveMore}
 abbrev reads_of : List ChunkRead → List Given
 reads_of cs = map (λ (c : ChunkRead). chunk_read c.listed c.bytes) cs
 
-abbrev reads_for : ManifestRead → List Given
+abbrev pub reads_for : ManifestRead → List Given
 reads_for m = load_read m.kept (text_of m) ∷ reads_of m.chunks
 
 gave_chunks : (shelf : ShelfView) (earlier : List Given) (cs : List ChunkRead) → shelf.gave ≡ Some earlier → (after_chunks shelf cs).gave ≡ Some (earlier ++ reads_of cs)
@@ -40,13 +40,13 @@ gave_chunks shelf earlier (c ∷ cs) is =
     gave_chunks (after_chunk shelf c) (earlier ++ one ∷ []) cs (ap (option_map (λ (gs : List Given). gs ++ one ∷ [])) is)
     ∙ ap Some (append_assoc earlier (one ∷ []) (reads_of cs))
 
-gave_manifest : (shelf : ShelfView) (earlier : List Given) (m : ManifestRead) → shelf.gave ≡ Some earlier → (after_manifest shelf m).gave ≡ Some (earlier ++ reads_for m)
+pub gave_manifest : (shelf : ShelfView) (earlier : List Given) (m : ManifestRead) → shelf.gave ≡ Some earlier → (after_manifest shelf m).gave ≡ Some (earlier ++ reads_for m)
 gave_manifest shelf earlier m is =
     let one = load_read m.kept (text_of m) in
     gave_chunks (after_load shelf m.kept m.manifest) (earlier ++ one ∷ []) m.chunks (ap (option_map (λ (gs : List Given). gs ++ one ∷ [])) is)
     ∙ ap Some (append_assoc earlier (one ∷ []) (reads_of m.chunks))
 
-gave_manifests : (shelf : ShelfView) (earlier : List Given) (ms : List ManifestRead) → shelf.gave ≡ Some earlier → (after_manifests shelf ms).gave ≡ Some (earlier ++ flat_map reads_for ms)
+pub gave_manifests : (shelf : ShelfView) (earlier : List Given) (ms : List ManifestRead) → shelf.gave ≡ Some earlier → (after_manifests shelf ms).gave ≡ Some (earlier ++ flat_map reads_for ms)
 gave_manifests shelf earlier [] is = is ∙ ap Some (sym (append-nil earlier))
 gave_manifests shelf earlier (m ∷ ms) is =
     gave_manifests (after_manifest shelf m) (earlier ++ reads_for m) ms (gave_manifest shelf earlier m is)

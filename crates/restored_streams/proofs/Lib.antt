@@ -8,6 +8,7 @@ pub mod WholeLaws
 pub mod AnswerLaws
 pub mod CallLaws
 pub mod StopLaws
+pub mod GaveLaws
 pub mod FrontLaws
 pub mod DamageLaws
 pub mod LaterLaws

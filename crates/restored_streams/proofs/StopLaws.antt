@@ -37,7 +37,7 @@ use Rattle.restored_streams.proofs.ReadLaws.{IsPart}
 abbrev pub GaveMore : ShelfView → ShelfView → Type 0
 GaveMore before after = (more : List Given) × ((earlier : List Given) → before.gave ≡ Some earlier → after.gave ≡ Some (earlier ++ more))
 
-gave_none : (before after : ShelfView) → after.gave ≡ before.gave → GaveMore before after
+pub gave_none : (before after : ShelfView) → after.gave ≡ before.gave → GaveMore before after
 gave_none before after same = ([], λ earlier is. same ∙ is ∙ ap Some (sym (append-nil earlier)))
 
 gave_one : (before after : ShelfView) (name : List ℕ) (at max : ℕ) (bytes : List ℕ) → HasRead before after name at max bytes → GaveMore before after
@@ -66,7 +66,7 @@ gave_chunk before after place piece chunk.Memory wants = gave_wanting before aft
 -- the output was not made; it holds a front of what the manifests before one gave; or of that and of the first chunks of
 -- that one
 pub data Stop (output : List ℕ) (before after : Shelves) (kepts : List KeptView) : Type 0 where
-  unmade : CreateLeaves before.files.held after.files.held output [] → Stop output before after kepts
+  unmade : CreateLeaves before.files.held after.files.held output [] → GaveMore before.depot after.depot → Stop output before after kepts
   behind : (done : List ManifestRead) (rest : List KeptView) → kepts ≡ map (λ (m : ManifestRead). m.kept) done ++ rest
       → AreManifestsRead before.depot done → GaveMore (after_manifests before.depot done) after.depot
       → HoldsFront output before.files after.files (concat (bytes_of_manifests done)) → Stop output before after kepts
@@ -138,7 +138,7 @@ at_manifest output before after kepts done kept rest fault split read (in_chunks
     (subst (λ (f : ShelfView). StopsAtChunk output (record { files = f; depot = after_chunks mid stop.done }) after stop.listed fault) (more_output before.files output (bytes_of_manifests done) (bytes_of_chunks stop.done)) stop.stops))
 
 pub stop_of : (output : List ℕ) (before after : Shelves) (kepts : List KeptView) (fault : RestoreFault) → StreamCopy output before after kepts (Err fault) → Stop output before after kepts
-stop_of output before after kepts fault (not_made why is failed same) = unmade failed.objects
+stop_of output before after kepts fault (not_made why is failed same) = unmade failed.objects (gave_none before.depot after.depot (ap (λ (s : ShelfView). s.gave) same))
 stop_of output before after kepts fault (made stop) =
     at_manifest output before after kepts stop.done stop.kept stop.rest fault stop.split stop.read
     (subst (λ (f : ShelfView). StopsAtManifest output (record { files = f; depot = after_manifests before.depot stop.done }) after stop.kept fault) (output-joined before.files output (bytes_of_manifests stop.done)) stop.stops)

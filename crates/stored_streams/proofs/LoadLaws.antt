@@ -196,7 +196,7 @@ in_step n streams rules loads given Bad brings (entry ∷ newer) older sound leg
 
 -- ---- a collision
 
-collides : (n : Numbers) (streams : Streams) (given : List ℕ → Type 0) → Brings n streams given (λ past. Collide n streams past given)
+pub collides : (n : Numbers) (streams : Streams) (given : List ℕ → Type 0) → Brings n streams given (λ past. Collide n streams past given)
 collides n streams given = record {
   read = λ past id bytes committed digest differ read. record {
     one = bytes;
