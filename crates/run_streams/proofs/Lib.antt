@@ -7,3 +7,5 @@ pub mod WholeRunLaws
 pub mod ClosedLaws
 pub mod WholeAnswerLaws
 pub mod MadeLaws
+pub mod WroteRunLaws
+pub mod ErasedLaws

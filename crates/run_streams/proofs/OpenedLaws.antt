@@ -1,15 +1,17 @@
--- What is known of a store that was opened, where its depot is told.
-use Rattle.std.proofs.Common.{◌≡◌, ℕ, List, [], ◌∷◌, Some, subst, inl, inr}
-use Rattle.std.specs.Prelude.{IfSome, Ok}
+-- What is known of a store that was opened, and of what its depot tells.
+use Rattle.std.proofs.Common.{◌≡◌, ℕ, List, [], ◌∷◌, ◌++◌, Option, Some, refl, sym, ap, ◌∙◌, subst, inl, inr}
+use Rattle.std.specs.Prelude.{IfSome, Ok, Err}
 use Rattle.std.specs.List.{All, AllByRecursion}
 use Rattle.ss_base.proofs.MemberLaws.{In, reverse_in, All-from_in}
 use Rattle.journal_entry.specs.declared.entry.Entry.{Entry}
 use Rattle.journal_entry.specs.Bounds.{IsEntry}
+use Rattle.journal_file.specs.Answer.{HasRead, reads_from, with_reads, joined}
 use Rattle.journal_file.specs.Header.{journal_name}
-use Rattle.outside.specs.Shelf.{Objects, bytes_of}
+use Rattle.outside.specs.Shelf.{Objects, Given, bytes_of}
 use Rattle.outside.specs.Views.{ShelfView}
 use Rattle.store_core.specs.View.{StateView, past_of}
-use Rattle.store_run.specs.Opening.{Opens, IsOpening, IsStore}
+use Rattle.store_run.specs.JobRun.{Kept, KeepAnswer}
+use Rattle.store_run.specs.Opening.{store_of, Reading, FollowsFrom, Opens, IsOpening, IsStore}
 
 pub told_store : (depot depot' : ShelfView) (store : StateView) (objects : Objects) → Opens depot depot' (Ok store) → depot.held ≡ Some objects → IsStore (bytes_of objects journal_name) store
 told_store depot depot' store objects opens told =
@@ -25,3 +27,28 @@ entries_in (one ∷ entries) all entry listed = elim listed [
 pub store_entries : (bytes : List ℕ) (store : StateView) → IsStore bytes store → All IsEntry (past_of store)
 store_entries bytes store is =
     All-from_in IsEntry (past_of store) (λ entry listed. entries_in store.entries is.journal.journal.valid entry (reverse_in entry store.entries listed))
+
+-- ---- whatever the depot tells
+
+store_read : (depot depot' : ShelfView) (store : StateView) (reading : Reading) → HasRead depot.gave depot'.gave depot.reads depot'.reads reading → FollowsFrom reading (Ok store) → (bytes : List ℕ) × IsStore bytes store
+store_read depot depot' store (Ok found) has (same, legal, no_session, no_reading) =
+    let bytes = joined has.pieces in
+    let read : StateView = store_of found.0 found.1.items in
+    let is : IsStore bytes read = record { journal = record { journal = has.answer; limits = refl }; legal = legal; no_session = no_session; no_reading = no_reading } in
+    (bytes, subst (λ (s : StateView). IsStore bytes s) (sym same) is)
+store_read depot depot' store (Err fault) has is = absurd (cc)
+
+-- what its reads gave is the journal of the store
+pub read_store : (depot depot' : ShelfView) (store : StateView) → Opens depot depot' (Ok store) → (bytes : List ℕ) × IsStore bytes store
+read_store depot depot' store opens = store_read depot depot' store opens.reads.reading opens.reads.gave opens.reads.follows
+
+-- what it tells of its reads behind those of the journal
+pub opened_gave : (depot depot' : ShelfView) (store : StateView) (earlier : List Given) → Opens depot depot' (Ok store) → depot.gave ≡ Some earlier → (now : List Given) × (depot'.gave ≡ Some now)
+opened_gave depot depot' store earlier opens told =
+    let pieces = opens.reads.gave.pieces in
+    (earlier ++ reads_from 0 pieces, opens.reads.gave.gave ∙ ap (λ (gave : Option (List Given)). with_reads gave pieces) told)
+
+-- keeping entries reads nothing
+pub keep_gave : (before after : ShelfView) (entries : List Entry) (kept : Kept) → KeepAnswer before after entries kept → after.gave ≡ before.gave
+keep_gave before after entries (Ok done) keeps = ap (λ (d : ShelfView). d.gave) keeps.1
+keep_gave before after entries (Err fault) keeps = ap (λ (d : ShelfView). d.gave) keeps.1

@@ -1,35 +1,36 @@
 -- A restore that answered, as a run of its command.
-use Rattle.std.proofs.Common.{◌≡◌, ℕ, List, [], ◌∷◌, Some, refl, sym, ap, ◌∙◌, subst, ◌⊎◌, inl, inr, arith}
+use Rattle.std.proofs.Common.{◌≡◌, ℕ, List, [], ◌∷◌, ◌++◌, map, Option, Some, refl, sym, ap, ◌∙◌, subst, ◌⊎◌, inl, inr, arith}
 use Rattle.std.specs.Prelude.{Result, Ok, Err}
+use Rattle.std.specs.Option.{option_map}
 use Rattle.ss_base.specs.declared.profile.Numbers.{Numbers}
 use Rattle.ss_base.specs.Profile.{numbers_of}
 use Rattle.ss_base.proofs.SoundLaws.{AreSound-numbers_of}
-use Rattle.outside.specs.Shelf.{Objects, bytes_of}
+use Rattle.outside.specs.Shelf.{Objects, Given}
 use Rattle.outside.specs.Views.{ShelfView, SinkView}
 use Rattle.journal_entry.specs.declared.entry.Entry.{Entry}
-use Rattle.journal_file.specs.Header.{journal_name}
-use Rattle.store_core.specs.View.{StateView, past_of, rules_of}
+use Rattle.store_core.specs.View.{StateView, past_of, rules_of, made}
 use Rattle.depot.specs.declared.fault.RestoreFault.{RestoreFault}
 use Rattle.restore.specs.Copies.{Shelves}
 use Rattle.restore.specs.Restores.{StateCalls, RestoreAnswer}
 use Rattle.stored_streams.specs.Streams.{Streams}
 use Rattle.stored_streams.specs.OfStreams.{IsOfStreams}
-use Rattle.stored_streams.specs.Reads.{IsGiven}
-use Rattle.stored_streams.specs.Reads.Reads.{held}
+use Rattle.stored_streams.specs.Reads.{Reads, IsGiven}
+use Rattle.stored_streams.specs.Reads.Reads.{recorded}
 use Rattle.stored_streams.specs.Collision.{Collide}
 use Rattle.stored_streams.specs.Whole.{IsWhole}
-use Rattle.restored_streams.specs.Restored.{HasRestored, LeavesFront, TellsNoDamage, ChunksCollide}
+use Rattle.restored_streams.specs.Restored.{AreRecorded, Tells, HasRestored, LeavesFront, TellsNoDamage, ChunksCollide}
 use Rattle.restored_streams.proofs.StreamLaws.{IsKnown}
 use Rattle.restored_streams.proofs.CallLaws.{answered_stream, answered_whole, answered_front, answered_undamaged, answered_front_whole}
+use Rattle.restored_streams.proofs.GaveLaws.{answer_gave}
+use Rattle.backed_up_streams.specs.Loaded.{ReadsMore}
 use Rattle.job_script.specs.declared.job.JobKind.TheVariants.{Restore}
 use Rattle.report.specs.declared.answer.JobAnswer.{JobAnswer}
 use Rattle.report.specs.declared.answer.JobAnswer.TheVariants as job
 use Rattle.job_run.specs.Jobs.{answer_of}
 use Rattle.report.specs.Status.{answer_status}
 use Rattle.store_run.specs.JobRun.{Kept, Printed, run_status, HasDoneJob}
-use Rattle.store_run.specs.Opening.{IsStore}
 use Rattle.run_streams.proofs.StatusLaws.{refused_is_told}
-use Rattle.run_streams.proofs.OpenedLaws.{told_store, store_entries}
+use Rattle.run_streams.proofs.OpenedLaws.{store_entries, read_store, opened_gave, keep_gave}
 
 -- where the run's status is 0 the restore answered, and it is known what its answer says
 by_result : (C : ShelfView → ShelfView → Type 0) (store new : StateView) (author : ℕ) (name output : List ℕ) (old now : Shelves) (answer : JobAnswer) (result : Result ℕ RestoreFault) (kept : Kept) (printed : Printed)
@@ -39,7 +40,7 @@ by_result C store new author name output old now answer (Ok count) kept printed 
 by_result C store new author name output old now answer (Err fault) kept printed zero is answered says =
     absurd (refused_is_told fault kept printed (ap (λ (a : JobAnswer). run_status (answer_status a) kept printed) (sym is) ∙ sym zero))
 
-module _ (streams : Streams) (objects : Objects) (name output : List ℕ) (before after : Shelves) (sink sink' : SinkView) (status : ℕ) (done : HasDoneJob (Restore name output) before after sink sink' status) (told : before.depot.held ≡ Some objects) (of_streams : IsOfStreams (numbers_of done.store.profile) streams (past_of done.store)) where
+module _ (streams : Streams) (name output : List ℕ) (before after : Shelves) (sink sink' : SinkView) (status : ℕ) (done : HasDoneJob (Restore name output) before after sink sink' status) (of_streams : IsOfStreams (numbers_of done.store.profile) streams (past_of done.store)) where
   abbrev n : Numbers
   n = numbers_of done.store.profile
 
@@ -49,14 +50,13 @@ module _ (streams : Streams) (objects : Objects) (name output : List ℕ) (befor
   abbrev Restored : ShelfView → ShelfView → Type 0
   Restored files files' = (count : ℕ) × HasRestored streams past name output files files' count
 
-  is_store : IsStore (bytes_of objects journal_name) done.store
-  is_store = told_store before.depot done.opened.depot done.store objects done.opens told
-
   known : IsKnown n streams (rules_of 8 8 done.store) past
-  known = record { sound = AreSound-numbers_of done.store.profile; legal = is_store.legal; entries = store_entries (bytes_of objects journal_name) done.store is_store; of_streams = of_streams }
+  known =
+      let (bytes, is) = read_store before.depot done.opened.depot done.store done.opens in
+      record { sound = AreSound-numbers_of done.store.profile; legal = is.legal; entries = store_entries bytes done.store is; of_streams = of_streams }
 
-  opened_told : done.opened.depot.held ≡ Some objects
-  opened_told = done.opens.only_reads.held ∙ told
+  pub opened_told : (objects : Objects) → before.depot.held ≡ Some objects → done.opened.depot.held ≡ Some objects
+  opened_told objects told = done.opens.only_reads.held ∙ told
 
   by_answer : 0 ≡ status → (C : ShelfView → ShelfView → Type 0) → ((count : ℕ) → RestoreAnswer (StateCalls done.store done.author name done.new) output done.opened done.done (Ok count) → C done.opened.files done.done.files) → C before.files after.files
   by_answer zero C says =
@@ -64,19 +64,20 @@ module _ (streams : Streams) (objects : Objects) (name output : List ℕ) (befor
       (subst (λ files. C files done.done.files) done.files_same
       (by_result C done.store done.new done.author name output done.opened done.done done.answer done.job.result done.ending.kept done.ending.printed (zero ∙ done.ending.status_is) done.job.answer_is done.job.done says))
 
-  pub given_back : 0 ≡ status → Restored before.files after.files ⊎ Collide n streams past (IsGiven (held objects ∷ []) past)
-  given_back zero =
-      by_answer zero (λ files files'. Restored files files' ⊎ Collide n streams past (IsGiven (held objects ∷ []) past))
-      (λ count answered. elim (answered_stream n streams (rules_of 8 8 done.store) (held objects ∷ []) (held objects) done.store done.new done.author count name output done.opened done.done known answered (0, omega arith, refl) opened_told) [
+  -- by what the handle tells of the job's reads
+  pub given_back : 0 ≡ status → (reads : Reads) → Tells done.opened.depot done.done.depot reads → Restored before.files after.files ⊎ Collide n streams past (IsGiven (reads ∷ []) past)
+  given_back zero reads tells =
+      by_answer zero (λ files files'. Restored files files' ⊎ Collide n streams past (IsGiven (reads ∷ []) past))
+      (λ count answered. elim (answered_stream n streams (rules_of 8 8 done.store) (reads ∷ []) reads done.store done.new done.author count name output done.opened done.done known answered (0, omega arith, refl) tells) [
         | inl restored ↦ inl (count, restored)
         | inr collided ↦ inr collided
       ])
 
   -- from whole objects
-  pub whole_given_back : 0 ≡ status → IsWhole n streams past objects → Restored before.files after.files ⊎ ChunksCollide n streams past
-  whole_given_back zero whole =
+  pub whole_given_back : 0 ≡ status → (objects : Objects) → before.depot.held ≡ Some objects → IsWhole n streams past objects → Restored before.files after.files ⊎ ChunksCollide n streams past
+  whole_given_back zero objects told whole =
       by_answer zero (λ files files'. Restored files files' ⊎ ChunksCollide n streams past)
-      (λ count answered. elim (answered_whole n streams (rules_of 8 8 done.store) objects done.store done.new done.author count name output done.opened done.done known whole answered opened_told) [
+      (λ count answered. elim (answered_whole n streams (rules_of 8 8 done.store) objects done.store done.new done.author count name output done.opened done.done known whole answered (opened_told objects told)) [
         | inl restored ↦ inl (count, restored)
         | inr collided ↦ inr collided
       ])
@@ -89,14 +90,45 @@ module _ (streams : Streams) (objects : Objects) (name output : List ℕ) (befor
     by_files : (C : ShelfView → ShelfView → Type 0) → C done.opened.files done.done.files → C before.files after.files
     by_files C is = subst (λ files'. C before.files files') (sym done.files_kept) (subst (λ files. C files done.done.files) done.files_same is)
 
-    pub front_left : LeavesFront streams past name output before.files after.files ⊎ Collide n streams past (IsGiven (held objects ∷ []) past)
-    front_left =
-        by_files (λ files files'. LeavesFront streams past name output files files' ⊎ Collide n streams past (IsGiven (held objects ∷ []) past))
-        (answered_front n streams (rules_of 8 8 done.store) (held objects ∷ []) (held objects) done.store done.new done.author name output done.opened done.done fault known failed_so (0, omega arith, refl) opened_told)
+    pub front_left : (reads : Reads) → Tells done.opened.depot done.done.depot reads → LeavesFront streams past name output before.files after.files ⊎ Collide n streams past (IsGiven (reads ∷ []) past)
+    front_left reads tells =
+        by_files (λ files files'. LeavesFront streams past name output files files' ⊎ Collide n streams past (IsGiven (reads ∷ []) past))
+        (answered_front n streams (rules_of 8 8 done.store) (reads ∷ []) reads done.store done.new done.author name output done.opened done.done fault known failed_so (0, omega arith, refl) tells)
 
-    pub whole_front_left : IsWhole n streams past objects → TellsNoDamage fault × (LeavesFront streams past name output before.files after.files ⊎ ChunksCollide n streams past)
-    whole_front_left whole = (
-      answered_undamaged n streams (rules_of 8 8 done.store) objects done.store done.new done.author name output done.opened done.done fault known whole failed_so opened_told,
+    pub whole_front_left : (objects : Objects) → before.depot.held ≡ Some objects → IsWhole n streams past objects → TellsNoDamage fault × (LeavesFront streams past name output before.files after.files ⊎ ChunksCollide n streams past)
+    whole_front_left objects told whole = (
+      answered_undamaged n streams (rules_of 8 8 done.store) objects done.store done.new done.author name output done.opened done.done fault known whole failed_so (opened_told objects told),
       by_files (λ files files'. LeavesFront streams past name output files files' ⊎ ChunksCollide n streams past)
-          (answered_front_whole n streams (rules_of 8 8 done.store) objects done.store done.new done.author name output done.opened done.done fault known whole failed_so opened_told),
+          (answered_front_whole n streams (rules_of 8 8 done.store) objects done.store done.new done.author name output done.opened done.done fault known whole failed_so (opened_told objects told)),
     )
+
+  -- ---- where the depot tells its reads
+
+  -- those that the job made
+  record JobReads : Type 0 where
+    pub reads : List Given
+    pub more : ReadsMore done.opened.depot after.depot reads
+    pub tells : AreRecorded done.opened.depot done.done.depot reads
+
+  job_reads : (earlier : List Given) → before.depot.gave ≡ Some earlier → JobReads
+  job_reads earlier told =
+      let (now, opened) = opened_gave before.depot done.opened.depot done.store earlier done.opens told in
+      let (reads, more) = answer_gave (StateCalls done.store done.author name done.new) output done.opened done.done done.job.result done.job.done in
+      let is : done.done.depot.gave ≡ Some (now ++ reads) = more now opened in
+      record {
+        reads = reads;
+        more =
+            keep_gave done.done.depot after.depot (map (made done.author) done.points) done.ending.kept done.ending.keeps
+            ∙ is ∙ ap (λ (gave : Option (List Given)). option_map (λ (gs : List Given). gs ++ reads) gave) (sym opened);
+        tells = record { earlier = now; between = reads; was = opened; is = is; among = λ read there. there };
+      }
+
+  pub given_back_recorded : 0 ≡ status → (earlier : List Given) → before.depot.gave ≡ Some earlier → (reads : List Given) × ReadsMore done.opened.depot after.depot reads × (Restored before.files after.files ⊎ Collide n streams past (IsGiven (recorded reads ∷ []) past))
+  given_back_recorded zero earlier told =
+      let job = job_reads earlier told in
+      (job.reads, job.more, given_back zero (recorded job.reads) job.tells)
+
+  pub front_left_recorded : (fault : RestoreFault) → done.job.result ≡ Err fault → (earlier : List Given) → before.depot.gave ≡ Some earlier → (reads : List Given) × ReadsMore done.opened.depot after.depot reads × (LeavesFront streams past name output before.files after.files ⊎ Collide n streams past (IsGiven (recorded reads ∷ []) past))
+  front_left_recorded fault failed earlier told =
+      let job = job_reads earlier told in
+      (job.reads, job.more, front_left fault failed (recorded job.reads) job.tells)

@@ -51,7 +51,7 @@ whole_restored streams store name output before after sink sink' done is =
     let was = subst (λ (s : StateView). IsOfStreams (numbers_of s.profile) streams (past_of s)) (sym same) is.of_streams in
     let whole = subst (λ (s : StateView). IsWhole (numbers_of s.profile) streams (past_of s) is.objects) (sym same) is.whole in
     subst (λ (s : StateView). ((count : ℕ) × HasRestored streams (past_of s) name output before.files after.files count) ⊎ ChunksCollide (numbers_of s.profile) streams (past_of s)) same
-    (whole_given_back streams is.objects name output before after sink sink' 0 done is.told was refl whole)
+    (whole_given_back streams name output before after sink sink' 0 done was refl is.objects is.told whole)
 
 -- or one that did not answer
 pub whole_front : (streams : Streams) (store : StateView) (name output : List ℕ) (before after : Shelves) (sink sink' : SinkView) (status : ℕ) (done : HasDoneJob (Restore name output) before after sink sink' status) → IsWholeStore streams before.depot store → (fault : RestoreFault) → done.job.result ≡ Err fault
@@ -62,7 +62,7 @@ whole_front streams store name output before after sink sink' status done is fau
     let was = subst (λ (s : StateView). IsOfStreams (numbers_of s.profile) streams (past_of s)) (sym same) is.of_streams in
     let whole = subst (λ (s : StateView). IsWhole (numbers_of s.profile) streams (past_of s) is.objects) (sym same) is.whole in
     subst (λ (s : StateView). RestoreUndamaged fault × (LeavesFront streams (past_of s) name output before.files after.files ⊎ ChunksCollide (numbers_of s.profile) streams (past_of s))) same
-    (whole_front_left streams is.objects name output before after sink sink' status done is.told was fault failed whole)
+    (whole_front_left streams name output before after sink sink' status done was fault failed is.objects is.told whole)
 
 -- a restore that nothing keeps off
 pub restore_answered : (streams : Streams) (store : StateView) (files : Objects) (session : ℕ) (name output : List ℕ) (before after : Shelves) (sink sink' : SinkView) (status : ℕ) (done : HasDoneJob (Restore name output) before after sink sink' status) → IsWholeStore streams before.depot store

@@ -21,3 +21,11 @@ HasInput (Restore name output) streams files older past = Unit {0}
 HasInput (Delete name) streams files older past = Unit {0}
 HasInput Reclaim streams files older past = Unit {0}
 HasInput Stat streams files older past = Unit {0}
+
+-- a job that is no backup
+abbrev pub StoresNothing : JobKind → Type 0
+StoresNothing (Backup input name) = ⊥
+StoresNothing (Restore name output) = Unit {0}
+StoresNothing (Delete name) = Unit {0}
+StoresNothing Reclaim = Unit {0}
+StoresNothing Stat = Unit {0}

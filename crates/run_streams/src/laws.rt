@@ -1,46 +1,57 @@
 // From what a run of a job did to the streams of its store.
 ghost use Rattle.std.specs.FinMap.{contains_key};
-ghost use Rattle.std.specs.Prelude.{ℕ, ◌≡◌, ◌⊎◌, false, [], ◌∷◌, List, Some, Ok, Err};
+ghost use Rattle.std.specs.Prelude.{ℕ, ◌≡◌, ◌⊎◌, false, [], ◌∷◌, List, map, Some, Ok, Err};
 ghost use Rattle.std.specs.List.{All};
 ghost use Rattle.ss_base.specs.declared.profile.Profile.{Profile};
 ghost use Rattle.ss_base.specs.Profile.{numbers_of};
 ghost use Rattle.journal_entry.specs.Bounds.{IsEntry};
-ghost use Rattle.outside.specs.Shelf.{Objects, bytes_of};
+ghost use Rattle.outside.specs.Shelf.{Objects, Given, Written, bytes_of};
 ghost use Rattle.outside.specs.Views.{SinkView, ShelfView};
 ghost use Rattle.journal_file.specs.Header.{journal_name};
 ghost use Rattle.journal_file.specs.Journal.{journal_text};
 ghost use Rattle.store_core.specs.Replay.{NoneIs, has_session, has_reading};
-ghost use Rattle.store_core.specs.View.{StateView, past_of};
+ghost use Rattle.store_core.specs.View.{StateView, past_of, made};
 ghost use Rattle.depot.specs.declared.fault.RestoreFault.{RestoreFault};
 ghost use Rattle.history.specs.Sessions.{retained};
 ghost use Rattle.restore.specs.Copies.{Shelves};
 ghost use Rattle.stored_streams.specs.Streams.{Streams};
 ghost use Rattle.stored_streams.specs.OfStreams.{IsOfStreams};
 ghost use Rattle.stored_streams.specs.Reads.{IsGiven};
-ghost use Rattle.stored_streams.specs.Reads.Reads.{held};
+ghost use Rattle.stored_streams.specs.Reads.Reads.{recorded, held};
 ghost use Rattle.stored_streams.specs.Collision.{Collide};
 ghost use Rattle.restored_streams.specs.Complete.{NoneFailed, IsAnswered};
 ghost use Rattle.restored_streams.specs.Restored.{HasRestored, LeavesFront, TellsNoDamage, ChunksCollide};
+ghost use Rattle.backed_up_streams.specs.Loaded.{ReadsMore};
+ghost use Rattle.backed_up_streams.specs.Wrote.{AreWritesOf};
 ghost use Rattle.job_script.specs.declared.job.JobKind.{JobKind};
-ghost use Rattle.job_script.specs.declared.job.JobKind.TheVariants.{Backup, Restore};
+ghost use Rattle.job_script.specs.declared.job.JobKind.TheVariants.{Backup, Restore, Reclaim};
 ghost use Rattle.store_run.specs.JobRun.{HasDoneJob};
 ghost use Rattle.store_run.specs.Opening.{store_of};
 ghost use Rattle.run_streams.specs.Answered.{IsNoFault};
+ghost use Rattle.run_streams.specs.Erased.{HasErased, OnlyReadsDepot};
 ghost use Rattle.run_streams.specs.Made.{MakesKnown};
-ghost use Rattle.run_streams.specs.RunStreams.{HasInput};
+ghost use Rattle.run_streams.specs.RunStreams.{HasInput, StoresNothing};
+ghost use Rattle.run_streams.specs.Wrote.{with_run};
 ghost use Rattle.run_streams.specs.WholeStores.{IsWholeStore, KeepsStore, KeepStore};
 
 /// A restore that ends with status 0, in a store whose history is that of some streams, leaves as its output exactly the
 /// stream of the session that the name stands for, and no other file changes; or two different byte lists among those that
-/// were hashed have one SHA-256. The depot is told, and its objects may be anything; where the store is whole, the only
-/// exception is that two different chunks have one SHA-256. It runs nothing.
+/// were hashed have one SHA-256. The depot tells its objects or its reads, and these may be anything; where the store is
+/// whole, the only exception is that two different chunks have one SHA-256. It runs nothing.
 pub fn restored_by_a_run()
-    ensures read { (streams : Streams) (objects : Objects) (name output : List ℕ) (before after : Shelves) (sink sink' : SinkView)
+    ensures held { (streams : Streams) (objects : Objects) (name output : List ℕ) (before after : Shelves) (sink sink' : SinkView)
         → (done : HasDoneJob (Restore name output) before after sink sink' 0)
         → before.depot.held ≡ Some objects
         → IsOfStreams (numbers_of done.store.profile) streams (past_of done.store)
         → ((count : ℕ) × HasRestored streams (past_of done.store) name output before.files after.files count)
         ⊎ Collide (numbers_of done.store.profile) streams (past_of done.store) (IsGiven (held objects ∷ []) (past_of done.store)) }
+    ensures recorded { (streams : Streams) (earlier : List Given) (name output : List ℕ) (before after : Shelves) (sink sink' : SinkView)
+        → (done : HasDoneJob (Restore name output) before after sink sink' 0)
+        → before.depot.gave ≡ Some earlier
+        → IsOfStreams (numbers_of done.store.profile) streams (past_of done.store)
+        → (reads : List Given) × ReadsMore done.opened.depot after.depot reads
+        × (((count : ℕ) × HasRestored streams (past_of done.store) name output before.files after.files count)
+        ⊎ Collide (numbers_of done.store.profile) streams (past_of done.store) (IsGiven (recorded reads ∷ []) (past_of done.store))) }
     ensures whole { (streams : Streams) (store : StateView) (name output : List ℕ) (before after : Shelves) (sink sink' : SinkView)
         → HasDoneJob (Restore name output) before after sink sink' 0
         → IsWholeStore streams before.depot store
@@ -51,13 +62,21 @@ pub fn restored_by_a_run()
 /// A restore that did not answer leaves no output, an output that could not be made, or a front of the stream, and no other
 /// file changes; but for the same exceptions. From a whole store it tells of no damage. It runs nothing.
 pub fn fronts_by_a_run()
-    ensures read { (streams : Streams) (objects : Objects) (name output : List ℕ) (before after : Shelves) (sink sink' : SinkView) (status : ℕ) (fault : RestoreFault)
+    ensures held { (streams : Streams) (objects : Objects) (name output : List ℕ) (before after : Shelves) (sink sink' : SinkView) (status : ℕ) (fault : RestoreFault)
         → (done : HasDoneJob (Restore name output) before after sink sink' status)
         → done.job.result ≡ Err fault
         → before.depot.held ≡ Some objects
         → IsOfStreams (numbers_of done.store.profile) streams (past_of done.store)
         → LeavesFront streams (past_of done.store) name output before.files after.files
         ⊎ Collide (numbers_of done.store.profile) streams (past_of done.store) (IsGiven (held objects ∷ []) (past_of done.store)) }
+    ensures recorded { (streams : Streams) (earlier : List Given) (name output : List ℕ) (before after : Shelves) (sink sink' : SinkView) (status : ℕ) (fault : RestoreFault)
+        → (done : HasDoneJob (Restore name output) before after sink sink' status)
+        → done.job.result ≡ Err fault
+        → before.depot.gave ≡ Some earlier
+        → IsOfStreams (numbers_of done.store.profile) streams (past_of done.store)
+        → (reads : List Given) × ReadsMore done.opened.depot after.depot reads
+        × (LeavesFront streams (past_of done.store) name output before.files after.files
+        ⊎ Collide (numbers_of done.store.profile) streams (past_of done.store) (IsGiven (recorded reads ∷ []) (past_of done.store))) }
     ensures whole { (streams : Streams) (store : StateView) (name output : List ℕ) (before after : Shelves) (sink sink' : SinkView) (status : ℕ) (fault : RestoreFault)
         → (done : HasDoneJob (Restore name output) before after sink sink' status)
         → done.job.result ≡ Err fault
@@ -67,10 +86,10 @@ pub fn fronts_by_a_run()
 {}
 
 /// A run of any job leaves the history of its store one of the streams, or two different byte lists among those that were
-/// hashed have one SHA-256; a backup's stream is its input's bytes. The depot is told, and its objects may be anything.
-/// It runs nothing.
+/// hashed have one SHA-256; a backup's stream is its input's bytes. What the depot tells may be anything: its objects, or
+/// the reads that the backup made. A job that is no backup is no exception. It runs nothing.
 pub fn streams_of_a_run()
-    ensures { (kind : JobKind) (streams : Streams) (objects : Objects) (before after : Shelves) (sink sink' : SinkView) (status : ℕ)
+    ensures held { (kind : JobKind) (streams : Streams) (objects : Objects) (before after : Shelves) (sink sink' : SinkView) (status : ℕ)
         → (done : HasDoneJob kind before after sink sink' status)
         → before.depot.held ≡ Some objects
         → HasInput kind streams before.files (past_of done.store) (past_of done.new)
@@ -78,6 +97,63 @@ pub fn streams_of_a_run()
         → IsOfStreams (numbers_of done.store.profile) streams (past_of done.store)
         → IsOfStreams (numbers_of done.store.profile) streams (past_of done.new)
         ⊎ Collide (numbers_of done.store.profile) streams (past_of done.new) (IsGiven (held objects ∷ []) (past_of done.new)) }
+    ensures recorded { (input name : List ℕ) (streams : Streams) (before after : Shelves) (sink sink' : SinkView) (status : ℕ)
+        → (done : HasDoneJob (Backup input name) before after sink sink' status)
+        → HasInput (Backup input name) streams before.files (past_of done.store) (past_of done.new)
+        → All IsEntry (past_of done.new)
+        → IsOfStreams (numbers_of done.store.profile) streams (past_of done.store)
+        → (reads : List Given) × ReadsMore done.opened.depot after.depot reads
+        × (IsOfStreams (numbers_of done.store.profile) streams (past_of done.new)
+        ⊎ Collide (numbers_of done.store.profile) streams (past_of done.new) (IsGiven (recorded reads ∷ []) (past_of done.new))) }
+    ensures others { (kind : JobKind) (streams : Streams) (before after : Shelves) (sink sink' : SinkView) (status : ℕ)
+        → (done : HasDoneJob kind before after sink sink' status)
+        → StoresNothing kind
+        → IsOfStreams (numbers_of done.store.profile) streams (past_of done.store)
+        → IsOfStreams (numbers_of done.store.profile) streams (past_of done.new) }
+{}
+
+/// What a run of a backup wrote to its depot, where the depot tells its writes: for each commit that it added, in order,
+/// the puts of the fresh chunks and then the manifest, as the history plans them; where the session was given up with a
+/// choice pending, a front of the same of the segment that was chosen; and then the entries to the journal, in one piece,
+/// where they were kept. Or two different byte lists among those that were hashed have one SHA-256. It erased nothing.
+/// Another job writes those entries alone. It runs nothing.
+pub fn written_by_a_run()
+    ensures held { (input name : List ℕ) (streams : Streams) (objects : Objects) (before after : Shelves) (sink sink' : SinkView) (status : ℕ)
+        → (done : HasDoneJob (Backup input name) before after sink sink' status)
+        → before.depot.held ≡ Some objects
+        → HasInput (Backup input name) streams before.files (past_of done.store) (past_of done.new)
+        → All IsEntry (past_of done.new)
+        → IsOfStreams (numbers_of done.store.profile) streams (past_of done.store)
+        → (writes : List Written) × (after.depot.wrote ≡ with_run before.depot.wrote writes (map (made done.author) done.points) done.ending.kept) × (after.depot.erased ≡ before.depot.erased)
+        × (AreWritesOf (numbers_of done.store.profile) streams (past_of done.store) (past_of done.new) writes
+        ⊎ Collide (numbers_of done.store.profile) streams (past_of done.new) (IsGiven (held objects ∷ []) (past_of done.new))) }
+    ensures recorded { (input name : List ℕ) (streams : Streams) (before after : Shelves) (sink sink' : SinkView) (status : ℕ)
+        → (done : HasDoneJob (Backup input name) before after sink sink' status)
+        → HasInput (Backup input name) streams before.files (past_of done.store) (past_of done.new)
+        → All IsEntry (past_of done.new)
+        → IsOfStreams (numbers_of done.store.profile) streams (past_of done.store)
+        → (reads : List Given) × ReadsMore done.opened.depot after.depot reads
+        × (writes : List Written) × (after.depot.wrote ≡ with_run before.depot.wrote writes (map (made done.author) done.points) done.ending.kept) × (after.depot.erased ≡ before.depot.erased)
+        × (AreWritesOf (numbers_of done.store.profile) streams (past_of done.store) (past_of done.new) writes
+        ⊎ Collide (numbers_of done.store.profile) streams (past_of done.new) (IsGiven (recorded reads ∷ []) (past_of done.new))) }
+    ensures others { (kind : JobKind) (before after : Shelves) (sink sink' : SinkView) (status : ℕ)
+        → (done : HasDoneJob kind before after sink sink' status)
+        → StoresNothing kind
+        → after.depot.wrote ≡ with_run before.depot.wrote [] (map (made done.author) done.points) done.ending.kept }
+{}
+
+/// What a run of `reclaim` erased of its depot, where the depot tells what was erased: the objects that its Reclaims name,
+/// in order, each at most once; unless memory was wanted, no more of them are left than the count of faults rose by. Of a
+/// run of `restore`, `delete` and `stat` it tells nothing more, and of a backup `written_by_a_run` says so. It runs
+/// nothing.
+pub fn erased_by_a_run()
+    ensures reclaim { (before after : Shelves) (sink sink' : SinkView) (status : ℕ)
+        → (done : HasDoneJob Reclaim before after sink sink' status)
+        → HasErased (map (made done.author) done.points) done.answer before.depot after.depot }
+    ensures others { (kind : JobKind) (before after : Shelves) (sink sink' : SinkView) (status : ℕ)
+        → (done : HasDoneJob kind before after sink sink' status)
+        → OnlyReadsDepot kind
+        → after.depot.erased ≡ before.depot.erased }
 {}
 
 /// Behind a run that did a job no session and no reading is unfinished, whatever its status. It runs nothing.

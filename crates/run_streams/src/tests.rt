@@ -8,6 +8,8 @@ fn each_law_is_called(_rt: HostRuntime) -> Result<(), Fail> {
     fronts_by_a_run();
     objects_of_a_run();
     streams_of_a_run();
+    written_by_a_run();
+    erased_by_a_run();
     stores_stay_whole();
     closed_by_a_run();
     restores_are_answered();
