@@ -7,3 +7,9 @@ pub mod WholeRunLaws
 pub mod ClosedLaws
 pub mod WholeAnswerLaws
 pub mod MadeLaws
+pub mod UnkeptLaws
+pub mod FullLaws
+pub mod CountLaws
+pub mod DueLaws
+pub mod BackupDueLaws
+pub mod RunDueLaws

@@ -2,3 +2,5 @@ pub mod RunStreams
 pub mod WholeStores
 pub mod Answered
 pub mod Made
+pub mod Ends
+pub mod Unkept
