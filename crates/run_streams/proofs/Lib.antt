@@ -9,3 +9,9 @@ pub mod WholeAnswerLaws
 pub mod MadeLaws
 pub mod WroteRunLaws
 pub mod ErasedLaws
+pub mod UnkeptLaws
+pub mod FullLaws
+pub mod CountLaws
+pub mod DueLaws
+pub mod BackupDueLaws
+pub mod RunDueLaws

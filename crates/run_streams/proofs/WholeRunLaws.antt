@@ -196,7 +196,7 @@ legal_fits rules (entry ∷ past) legal =
     let few = leb-true _ _ both.0 in
     (omega (arith, few), leb-true _ _ both.1)
 
-weight_reversed : (entries : List Entry) → weight (reverse entries) ≡ weight entries
+pub weight_reversed : (entries : List Entry) → weight (reverse entries) ≡ weight entries
 unfolding weight
 weight_reversed [] = refl
 weight_reversed (entry ∷ entries) =
@@ -332,8 +332,20 @@ job_whole Reclaim streams before after sink sink' status done objects told input
 -- ---- the kept journal
 
 -- the journal's object is no other's
-no_journal : IsNoObject journal_name
+pub no_journal : IsNoObject journal_name
 no_journal object same = not_journal object same
+
+-- so it may hold anything
+pub whole_journal : (n : Numbers) (sound : AreSound n) (streams : Streams) (rules : Rules) (past : List Entry) (objects : Objects) (text : List ℕ)
+    → is_legal rules past ≡ true → All IsEntry past → IsOfStreams n streams past → IsWhole n streams past objects → IsWhole n streams past (map_of.insert objects journal_name text)
+whole_journal n sound streams rules past objects text legal entries of_streams whole =
+    let now = map_of.insert objects journal_name text in
+    let same : (object : Object) → bytes_of now (object_text object) ≡ bytes_of objects (object_text object) = λ object. bytes_of-insert_other objects journal_name text (object_text object) (λ e. not_journal object (sym e)) in
+    whole_kept n streams rules past objects now sound legal entries of_streams whole
+    (record {
+      containers = λ id needed below. ([], same (Container id) ∙ sym (append-nil (bytes_of objects (object_text (Container id)))));
+      manifests = λ id live. same (Manifest id);
+    })
 
 kept_depot : (n : Numbers) (sound : AreSound n) (streams : Streams) (rules : Rules) (past : List Entry) (first : Objects) (depot after : ShelfView) (new : List Entry)
     → is_legal rules past ≡ true → All IsEntry past → after.held ≡ with_entries depot.held new → IsWholeThen n streams past first depot
@@ -341,17 +353,11 @@ kept_depot : (n : Numbers) (sound : AreSound n) (streams : Streams) (rules : Rul
 kept_depot n sound streams rules past first depot after [] legal entries held is =
     (is.now, held ∙ is.held_is, is.others journal_name no_journal ∙ sym (append-nil (bytes_of first journal_name)), is.whole)
 kept_depot n sound streams rules past first depot after (entry ∷ new) legal entries held is =
-    let text = bytes_of is.now journal_name ++ entries_text (entry ∷ new) in
-    let now = map_of.insert is.now journal_name text in
-    let same : (object : Object) → bytes_of now (object_text object) ≡ bytes_of is.now (object_text object) = λ object. bytes_of-insert_other is.now journal_name text (object_text object) (λ e. not_journal object (sym e)) in (
-      now,
+    let text = bytes_of is.now journal_name ++ entries_text (entry ∷ new) in (
+      map_of.insert is.now journal_name text,
       held ∙ ap (λ (h : Option Objects). with_added h journal_name (entries_text (entry ∷ new))) is.held_is,
       bytes_of-insert_same is.now journal_name text ∙ ap (λ (b : List ℕ). b ++ entries_text (entry ∷ new)) (is.others journal_name no_journal),
-      whole_kept n streams rules past is.now now sound legal entries is.of_streams is.whole
-          (record {
-            containers = λ id needed below. ([], same (Container id) ∙ sym (append-nil (bytes_of is.now (object_text (Container id)))));
-            manifests = λ id live. same (Manifest id);
-          }),
+      whole_journal n sound streams rules past is.now text legal entries is.of_streams is.whole,
     )
 
 pub kept_well : (before after : ShelfView) (entries : List Entry) (kept : Kept) → kept ≡ Ok tt → KeepAnswer before after entries kept → KeepAnswer before after entries (Ok tt)

@@ -4,3 +4,5 @@ pub mod Answered
 pub mod Made
 pub mod Wrote
 pub mod Erased
+pub mod Ends
+pub mod Unkept

@@ -6,9 +6,10 @@ ghost use Rattle.ss_base.specs.declared.profile.Profile.{Profile};
 ghost use Rattle.ss_base.specs.Profile.{numbers_of};
 ghost use Rattle.journal_entry.specs.Bounds.{IsEntry};
 ghost use Rattle.outside.specs.Shelf.{Objects, Given, Written, bytes_of};
-ghost use Rattle.outside.specs.Views.{SinkView, ShelfView};
+ghost use Rattle.outside.specs.Views.{SourceView, SinkView, ShelfView, SourceFailed, SinkFailed, ShelfFailed, Takes};
 ghost use Rattle.journal_file.specs.Header.{journal_name};
 ghost use Rattle.journal_file.specs.Journal.{journal_text};
+ghost use Rattle.journal_file.specs.declared.fault.AppendFault.{AppendFault};
 ghost use Rattle.store_core.specs.Replay.{NoneIs, has_session, has_reading};
 ghost use Rattle.store_core.specs.View.{StateView, past_of, made};
 ghost use Rattle.depot.specs.declared.fault.RestoreFault.{RestoreFault};
@@ -24,15 +25,24 @@ ghost use Rattle.restored_streams.specs.Restored.{HasRestored, LeavesFront, Tell
 ghost use Rattle.backed_up_streams.specs.Loaded.{ReadsMore};
 ghost use Rattle.backed_up_streams.specs.Wrote.{AreWritesOf};
 ghost use Rattle.job_script.specs.declared.job.JobKind.{JobKind};
-ghost use Rattle.job_script.specs.declared.job.JobKind.TheVariants.{Backup, Restore, Reclaim};
-ghost use Rattle.store_run.specs.JobRun.{HasDoneJob};
+ghost use Rattle.job_script.specs.declared.job.JobKind.TheVariants.{Backup, Restore, Delete, Reclaim, Stat};
+ghost use Rattle.store_run.specs.EntryLines.{entry_lines};
+ghost use Rattle.store_run.specs.Feed.{max_stream, EndsAtLimit};
+ghost use Rattle.store_run.specs.JobRun.{HasDoneJob, JobRun};
+ghost use Rattle.store_run.specs.Listing.{JournalAnswer};
 ghost use Rattle.store_run.specs.Opening.{store_of};
-ghost use Rattle.run_streams.specs.Answered.{IsNoFault};
+ghost use Rattle.store_run.specs.Run.{StreamAnswer, InitAnswer, HasJournal};
+ghost use Rattle.store_run.specs.SoFar.{Stage, so_far};
+ghost use Rattle.run_streams.specs.Answered.{IsNoFault, IsDue};
+ghost use Rattle.run_streams.specs.Ends.{IsClosedStore, EndsDuly};
 ghost use Rattle.run_streams.specs.Erased.{HasErased, OnlyReadsDepot};
 ghost use Rattle.run_streams.specs.Made.{MakesKnown};
 ghost use Rattle.run_streams.specs.RunStreams.{HasInput, StoresNothing};
+ghost use Rattle.run_streams.specs.Unkept.{KeepsLive};
 ghost use Rattle.run_streams.specs.Wrote.{with_run};
 ghost use Rattle.run_streams.specs.WholeStores.{IsWholeStore, KeepsStore, KeepStore};
+
+use store_run::listed_or_refused;
 
 /// A restore that ends with status 0, in a store whose history is that of some streams, leaves as its output exactly the
 /// stream of the session that the name stands for, and no other file changes; or two different byte lists among those that
@@ -194,6 +204,20 @@ pub fn stores_stay_whole()
         → IsWholeStore streams depot one → IsWholeStore streams depot other → one ≡ other }
 {}
 
+/// Where the append of its entries failed, a run from a whole store leaves each manifest still whole that is live in the
+/// history that was found and in the one with these entries: its text and its places are as they were. Behind the journal
+/// a front of the entries' texts may stand. A backup's stream is its input's bytes, and the entries are asked to be within
+/// the bounds of a journal's. It runs nothing.
+pub fn live_stays_whole_unkept()
+    ensures { (kind : JobKind) (streams : Streams) (store : StateView) (before after : Shelves) (sink sink' : SinkView) (status : ℕ) (fault : AppendFault)
+        → (done : HasDoneJob kind before after sink sink' status)
+        → done.ending.kept ≡ Err fault
+        → (is : IsWholeStore streams before.depot store)
+        → HasInput kind streams before.files (past_of done.store) (past_of done.new)
+        → All IsEntry (past_of done.new)
+        → KeepsLive (numbers_of store.profile) streams (past_of store) (past_of done.new) (map (made done.author) done.points) is.objects after.depot }
+{}
+
 /// A restore that nothing keeps off is answered: from a whole store, of a name that is retained, to an output that is told
 /// to be absent, where no count of faults rose in the job. Else its look had no room in the journal, or memory was wanted.
 /// It runs nothing.
@@ -219,3 +243,63 @@ pub fn backups_are_answered()
         → NoneFailed done.opened done.done
         → IsNoFault done.job.result }
 {}
+
+/// A delete, whatever the files hold: it names the stream that is retained, or there is none; else the journal is nearly
+/// full, or memory was wanted. It runs nothing.
+pub fn deletes_are_answered()
+    ensures { (name : List ℕ) (files : Objects) (before after : Shelves) (sink sink' : SinkView) (status : ℕ)
+        → (done : HasDoneJob (Delete name) before after sink sink' status)
+        → IsDue done.store done.new files done.answer (Delete name) }
+{}
+
+/// A reclaim in which the depot's count of faults did not rise: it erased all that it named, or the journal is nearly full,
+/// or memory was wanted. It runs nothing.
+pub fn reclaims_are_answered()
+    ensures { (files : Objects) (before after : Shelves) (sink sink' : SinkView) (status : ℕ)
+        → (done : HasDoneJob Reclaim before after sink sink' status)
+        → (ShelfFailed done.opened.depot done.done.depot → ⊥)
+        → IsDue done.store done.new files done.answer Reclaim }
+{}
+
+/// A stat: it tells the totals, or the journal is nearly full, or memory was wanted. It runs nothing.
+pub fn stats_are_answered()
+    ensures { (files : Objects) (before after : Shelves) (sink sink' : SinkView) (status : ℕ)
+        → (done : HasDoneJob Stat before after sink sink' status)
+        → IsDue done.store done.new files done.answer Stat }
+{}
+
+/// Runs that nothing keeps off: no count of faults rises, the files are told, and the store is whole, with no session and
+/// no reading unfinished. A job then has an answer that is due, its entries are kept and its report is printed; or no
+/// author's number is left, or memory was wanted. So its status is 0, 2, 7 or 8, and that of `journal` 0 or 8. That of
+/// `init` is 0 or 8 over any depot, and 11 where there is a journal; that of `names` and `segments` is 0 or 8, and 7 where
+/// the source gave too much. It runs nothing.
+pub fn runs_are_answered()
+    ensures jobs { (kind : JobKind) (streams : Streams) (store : StateView) (files : Objects) (before after : Shelves) (sink sink' : SinkView) (status : ℕ)
+        → JobRun kind before after sink sink' status
+        → IsClosedStore streams before.depot store
+        → before.files.held ≡ Some files
+        → NoneFailed before after
+        → (SinkFailed sink sink' → ⊥)
+        → EndsDuly kind store files before after sink sink' status }
+    ensures statuses { (kind : JobKind) (store : StateView) (files : Objects) (before after : Shelves) (sink sink' : SinkView) (status : ℕ)
+        → EndsDuly kind store files before after sink sink' status
+        → (status ≡ 0) ⊎ ((status ≡ 2) ⊎ ((status ≡ 7) ⊎ (status ≡ 8))) }
+    ensures journal { (streams : Streams) (store : StateView) (depot depot' : ShelfView) (sink sink' : SinkView) (status : ℕ)
+        → JournalAnswer depot depot' sink sink' status
+        → IsClosedStore streams depot store
+        → (ShelfFailed depot depot' → ⊥)
+        → (SinkFailed sink sink' → ⊥)
+        → ((status ≡ 0) × Takes sink sink' (entry_lines 0 store.entries)) ⊎ (status ≡ 8) }
+    ensures init { (profile : Profile) (depot depot' : ShelfView) (sink sink' : SinkView) (status : ℕ)
+        → InitAnswer profile depot depot' sink sink' status
+        → (ShelfFailed depot depot' → ⊥)
+        → (SinkFailed sink sink' → ⊥)
+        → (status ≡ 0) ⊎ (((status ≡ 11) × HasJournal depot) ⊎ (status ≡ 8)) }
+    ensures streams { (text : Stage → List ℕ → List ℕ) (source source' : SourceView) (sink sink' : SinkView) (status : ℕ)
+        → StreamAnswer text source source' sink sink' status
+        → (SourceFailed source source' → ⊥)
+        → (SinkFailed sink sink' → ⊥)
+        → (status ≡ 0) ⊎ (((status ≡ 7) × ((lines : List ℕ) × EndsAtLimit max_stream source source' (text so_far) lines)) ⊎ (status ≡ 8)) }
+{
+    listed_or_refused();
+}

@@ -5,9 +5,10 @@
 mod laws;
 
 pub use laws::{
-    backups_are_answered, closed_by_a_run, erased_by_a_run, fronts_by_a_run, objects_of_a_run,
-    restored_by_a_run, restores_are_answered, stores_stay_whole, streams_of_a_run,
-    written_by_a_run,
+    backups_are_answered, closed_by_a_run, deletes_are_answered, erased_by_a_run, fronts_by_a_run,
+    live_stays_whole_unkept, objects_of_a_run, reclaims_are_answered, restored_by_a_run,
+    restores_are_answered, runs_are_answered, stats_are_answered, stores_stay_whole,
+    streams_of_a_run, written_by_a_run,
 };
 
 #[cfg(test)]
