@@ -1,0 +1,2 @@
+pub use Rattle.depot.specs.Loading
+pub mod Cached
