@@ -15,3 +15,4 @@ pub mod CountLaws
 pub mod DueLaws
 pub mod BackupDueLaws
 pub mod RunDueLaws
+pub mod ClosedStoreLaws

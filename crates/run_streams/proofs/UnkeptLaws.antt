@@ -2,20 +2,17 @@
 use Rattle.std.proofs.Common.{◌≡◌, ℕ, true, List, [], ◌∷◌, ◌++◌, reverse, map, Option, Some, refl, sym, ap, ◌∙◌, subst, inl, inr, append-nil}
 use Rattle.std.specs.Prelude.{Err}
 use Rattle.std.specs.FinMap as map_of
-use Rattle.std.specs.List.{All}
 use Rattle.std.proofs.lemmas.Bool.{cases_Bool, and_parts}
 use Rattle.std.proofs.lemmas.List.{reverse-append}
 use Rattle.ss_base.specs.declared.ids.ManifestId.{ManifestId}
 use Rattle.ss_base.specs.declared.ids.Place.{Place}
 use Rattle.ss_base.specs.declared.profile.Numbers.{Numbers}
-use Rattle.ss_base.specs.Profile.{numbers_of, AreSound}
-use Rattle.ss_base.proofs.SoundLaws.{AreSound-numbers_of}
+use Rattle.ss_base.specs.Profile.{numbers_of}
 use Rattle.manifest_codec.specs.Text.{manifest_text}
 use Rattle.outside.specs.Shelf.{Objects, bytes_of, with_added, AppendLeaves}
 use Rattle.outside.specs.Views.{ShelfView, SinkView}
 use Rattle.outside.proofs.ObjectLaws.{bytes_of-insert_same}
 use Rattle.journal_entry.specs.declared.entry.Entry.{Entry}
-use Rattle.journal_entry.specs.Bounds.{IsEntry}
 use Rattle.journal_entry.specs.EntryText.{entries_text}
 use Rattle.history.specs.declared.rules.Rules.{Rules}
 use Rattle.history.specs.Legal.{is_legal}
@@ -37,7 +34,7 @@ use Rattle.backed_up_streams.specs.WholeThen.{IsWholeThen}
 use Rattle.job_script.specs.declared.job.JobKind.{JobKind}
 use Rattle.store_run.specs.JobRun.{KeepAnswer, HasDoneJob}
 use Rattle.run_streams.specs.RunStreams.{HasInput}
-use Rattle.run_streams.specs.Unkept.{IsStillWhole, KeepsLive}
+use Rattle.run_streams.specs.Unkept.{EntriesFit, IsStillWhole, KeepsLive}
 use Rattle.run_streams.specs.WholeStores.{IsWholeStore}
 use Rattle.run_streams.proofs.OpenedLaws.{told_store}
 use Rattle.run_streams.proofs.WholeRunLaws.{job_whole, no_journal, whole_journal, one_store}
@@ -94,9 +91,9 @@ record IsLeft (n : Numbers) (streams : Streams) (past new : List Entry) (first :
   texts : entries_text new ≡ front ++ back
   journal : bytes_of now journal_name ≡ bytes_of first journal_name ++ front
 
-left_so : (n : Numbers) (sound : AreSound n) (streams : Streams) (rules : Rules) (past new : List Entry) (first : Objects) (depot after : ShelfView)
-    → is_legal rules past ≡ true → All IsEntry past → AppendLeaves depot.held after.held journal_name (entries_text new) → IsWholeThen n streams past first depot → IsLeft n streams past new first after
-left_so n sound streams rules past new first depot after legal entries (inl same) is = record {
+left_so : (n : Numbers) (streams : Streams) (past new : List Entry) (first : Objects) (depot after : ShelfView)
+    → AppendLeaves depot.held after.held journal_name (entries_text new) → IsWholeThen n streams past first depot → IsLeft n streams past new first after
+left_so n streams past new first depot after (inl same) is = record {
   now = is.now;
   held_is = same ∙ is.held_is;
   whole = is.whole;
@@ -105,12 +102,12 @@ left_so n sound streams rules past new first depot after legal entries (inl same
   texts = refl;
   journal = is.others journal_name no_journal ∙ sym (append-nil (bytes_of first journal_name));
 }
-left_so n sound streams rules past new first depot after legal entries (inr (front, back, texts, added)) is =
+left_so n streams past new first depot after (inr (front, back, texts, added)) is =
     let text = bytes_of is.now journal_name ++ front in
     record {
       now = map_of.insert is.now journal_name text;
       held_is = added ∙ ap (λ (h : Option Objects). with_added h journal_name front) is.held_is;
-      whole = whole_journal n sound streams rules past is.now text legal entries is.of_streams is.whole;
+      whole = whole_journal n streams past is.now text is.whole;
       front = front;
       back = back;
       texts = texts;
@@ -120,7 +117,7 @@ left_so n sound streams rules past new first depot after legal entries (inr (fro
 -- ---- a run
 
 pub live_kept : (kind : JobKind) (streams : Streams) (store : StateView) (before after : Shelves) (sink sink' : SinkView) (status : ℕ) (fault : AppendFault) (done : HasDoneJob kind before after sink sink' status) → done.ending.kept ≡ Err fault → (is : IsWholeStore streams before.depot store)
-    → HasInput kind streams before.files (past_of done.store) (past_of done.new) → All IsEntry (past_of done.new)
+    → HasInput kind streams before.files (past_of done.store) (past_of done.new) → EntriesFit kind (past_of done.new)
     → KeepsLive (numbers_of store.profile) streams (past_of store) (past_of done.new) (map (made done.author) done.points) is.objects after.depot
 live_kept kind streams store before after sink sink' status fault done failed is input_is entries =
     let opened = told_store before.depot done.opened.depot done.store is.objects done.opens is.told in
@@ -131,7 +128,7 @@ live_kept kind streams store before after sink sink' status fault done failed is
     let was = subst (λ (s : StateView). IsOfStreams (numbers_of s.profile) streams (past_of s)) (sym same) is.of_streams in
     let whole = subst (λ (s : StateView). IsWhole (numbers_of s.profile) streams (past_of s) is.objects) (sym same) is.whole in
     let then_whole = job_whole kind streams before after sink sink' status done is.objects is.told input_is entries was whole in
-    let left = left_so n (AreSound-numbers_of done.store.profile) streams (rules_of 8 8 done.new) (past_of done.new) new is.objects done.done.depot after.depot done.legal entries keeps.0 then_whole in
+    let left = left_so n streams (past_of done.new) new is.objects done.done.depot after.depot keeps.0 then_whole in
     subst (λ (s : StateView). KeepsLive (numbers_of s.profile) streams (past_of s) (past_of done.new) new is.objects after.depot) same
     (record {
       now = left.now;

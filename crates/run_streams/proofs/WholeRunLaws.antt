@@ -20,7 +20,7 @@ use Rattle.ss_base.specs.Profile.{numbers_of, AreSound}
 use Rattle.ss_base.proofs.IdLaws.{same_object-self}
 use Rattle.ss_base.proofs.MemberLaws.{In, in_any, reverse_in, All-from_in}
 use Rattle.ss_base.proofs.SoundLaws.{AreSound-numbers_of}
-use Rattle.outside.specs.Shelf.{Objects, bytes_of, with_added, without_object}
+use Rattle.outside.specs.Shelf.{Objects, bytes_of, part_of, with_added, without_object}
 use Rattle.outside.specs.Views.{ShelfView, SinkView}
 use Rattle.outside.specs.declared.trouble.Trouble.{Trouble}
 use Rattle.outside.proofs.ObjectLaws.{bytes_of-insert_same, bytes_of-insert_other, bytes_of-remove_other}
@@ -50,12 +50,11 @@ use Rattle.history_calls.specs.Tokens.{IdleView}
 use Rattle.session.specs.Backup.{HasRunAlone}
 use Rattle.stored_streams.specs.Streams.{Streams}
 use Rattle.stored_streams.specs.OfStreams.{StoresNothing, IsOfStreams}
-use Rattle.stored_streams.specs.Whole.{IsWhole}
+use Rattle.stored_streams.specs.Whole.{IsChunkWith, IsWhole}
 use Rattle.stored_streams.proofs.NameLaws.{not_journal}
 use Rattle.stored_streams.proofs.StayLaws.{of_streams_stays, of_streams_before}
 use Rattle.whole_objects.specs.Keeps.{IsNoObject, CommitsNothing}
 use Rattle.whole_objects.proofs.EntryLaws.{whole_behind}
-use Rattle.whole_objects.proofs.KeepLaws.{whole_kept}
 use Rattle.whole_objects.proofs.ReclaimLaws.{whole_without}
 use Rattle.backed_up_streams.specs.OfInput.{IsOfInput}
 use Rattle.backed_up_streams.specs.WholeThen.{IsWholeThen}
@@ -69,6 +68,7 @@ use Rattle.job_run.specs.Erasing.LastReclaim.{few, troubled, unmade}
 use Rattle.store_run.specs.JobRun.{Kept, KeepAnswer, HasDoneJob}
 use Rattle.store_run.specs.Opening.{store_of, IsLegal, IsJournalOf}
 use Rattle.run_streams.specs.RunStreams.{HasFile, HasInput}
+use Rattle.run_streams.specs.Unkept.{EntriesFit}
 use Rattle.run_streams.specs.WholeStores.{IsWholeStore, KeepsStore, KeepStore}
 use Rattle.run_streams.specs.WholeStores.KeepsStore.{job_done, only_read}
 use Rattle.run_streams.specs.WholeStores.KeepStore.{no_run, one_more}
@@ -311,7 +311,7 @@ backup_whole_run input name streams before after sink sink' status done objects 
     (whole-backup 8 8 done.opened.files input name idle streams file.objects files_told done.opened.depot objects (done.opens.only_reads.held ∙ told) (rules_of 8 8 run.after.seen) run.after done.done.depot done.job.result run.answer of_input legal entries_seen was whole)
 
 pub job_whole : (kind : JobKind) (streams : Streams) (before after : Shelves) (sink sink' : SinkView) (status : ℕ) (done : HasDoneJob kind before after sink sink' status) (objects : Objects) (told : before.depot.held ≡ Some objects)
-    → HasInput kind streams before.files (past_of done.store) (past_of done.new) → All IsEntry (past_of done.new)
+    → HasInput kind streams before.files (past_of done.store) (past_of done.new) → EntriesFit kind (past_of done.new)
     → IsOfStreams (numbers_of done.store.profile) streams (past_of done.store) → IsWhole (numbers_of done.store.profile) streams (past_of done.store) objects
     → ThenWhole kind streams before after sink sink' status done objects told
 job_whole (Backup input name) streams before after sink sink' status done objects told input_is entries was whole =
@@ -336,28 +336,34 @@ pub no_journal : IsNoObject journal_name
 no_journal object same = not_journal object same
 
 -- so it may hold anything
-pub whole_journal : (n : Numbers) (sound : AreSound n) (streams : Streams) (rules : Rules) (past : List Entry) (objects : Objects) (text : List ℕ)
-    → is_legal rules past ≡ true → All IsEntry past → IsOfStreams n streams past → IsWhole n streams past objects → IsWhole n streams past (map_of.insert objects journal_name text)
-whole_journal n sound streams rules past objects text legal entries of_streams whole =
+pub whole_journal : (n : Numbers) (streams : Streams) (past : List Entry) (objects : Objects) (text : List ℕ) → IsWhole n streams past objects → IsWhole n streams past (map_of.insert objects journal_name text)
+whole_journal n streams past objects text whole =
     let now = map_of.insert objects journal_name text in
     let same : (object : Object) → bytes_of now (object_text object) ≡ bytes_of objects (object_text object) = λ object. bytes_of-insert_other objects journal_name text (object_text object) (λ e. not_journal object (sym e)) in
-    whole_kept n streams rules past objects now sound legal entries of_streams whole
-    (record {
-      containers = λ id needed below. ([], same (Container id) ∙ sym (append-nil (bytes_of objects (object_text (Container id)))));
-      manifests = λ id live. same (Manifest id);
-    })
+    record {
+      manifests = λ id live.
+          let was = whole.manifests id live in
+          record {
+            text = same (Manifest id) ∙ was.text;
+            chunks = λ k p place piece_there place_there.
+                subst (λ (bytes : List ℕ). IsChunkWith n streams past p (part_of bytes place.offset p.len)) (sym (same (Container place.container))) (was.chunks k p place piece_there place_there);
+          };
+      containers = λ id unfinished below.
+          let was = whole.containers id unfinished below in
+          record { rest = was.rest; begins = same (Container id) ∙ was.begins };
+    }
 
-kept_depot : (n : Numbers) (sound : AreSound n) (streams : Streams) (rules : Rules) (past : List Entry) (first : Objects) (depot after : ShelfView) (new : List Entry)
-    → is_legal rules past ≡ true → All IsEntry past → after.held ≡ with_entries depot.held new → IsWholeThen n streams past first depot
+kept_depot : (n : Numbers) (streams : Streams) (past : List Entry) (first : Objects) (depot after : ShelfView) (new : List Entry)
+    → after.held ≡ with_entries depot.held new → IsWholeThen n streams past first depot
     → (now : Objects) × (after.held ≡ Some now) × (bytes_of now journal_name ≡ bytes_of first journal_name ++ entries_text new) × IsWhole n streams past now
-kept_depot n sound streams rules past first depot after [] legal entries held is =
+kept_depot n streams past first depot after [] held is =
     (is.now, held ∙ is.held_is, is.others journal_name no_journal ∙ sym (append-nil (bytes_of first journal_name)), is.whole)
-kept_depot n sound streams rules past first depot after (entry ∷ new) legal entries held is =
+kept_depot n streams past first depot after (entry ∷ new) held is =
     let text = bytes_of is.now journal_name ++ entries_text (entry ∷ new) in (
       map_of.insert is.now journal_name text,
       held ∙ ap (λ (h : Option Objects). with_added h journal_name (entries_text (entry ∷ new))) is.held_is,
       bytes_of-insert_same is.now journal_name text ∙ ap (λ (b : List ℕ). b ++ entries_text (entry ∷ new)) (is.others journal_name no_journal),
-      whole_journal n sound streams rules past is.now text legal entries is.of_streams is.whole,
+      whole_journal n streams past is.now text is.whole,
     )
 
 pub kept_well : (before after : ShelfView) (entries : List Entry) (kept : Kept) → kept ≡ Ok tt → KeepAnswer before after entries kept → KeepAnswer before after entries (Ok tt)
@@ -367,9 +373,18 @@ pub past_valid : (older new : List Entry) → AllByRecursion IsEntry older → A
 past_valid older new valid valid_too =
     All-from_in IsEntry (reverse (older ++ new)) (λ entry there. entries_in (older ++ new) (all_valid older new valid valid_too) entry (reverse_in entry (older ++ new) there))
 
-pub run_keeps_store : (streams : Streams) (before after : Shelves) (store : StateView) → KeepsStore streams before after → IsWholeStore streams before.depot store → (new : StateView) × IsWholeStore streams after.depot new
-run_keeps_store streams before after store (only_read same) is = (store, record { objects = is.objects; told = same ∙ is.told; journal = is.journal; legal = is.legal; of_streams = is.of_streams; whole = is.whole })
-run_keeps_store streams before after store (job_done kind sink sink' status done kept input_is) is =
+-- entries that fit are what each job asks for
+entries_fit : (kind : JobKind) (past : List Entry) → All IsEntry past → EntriesFit kind past
+entries_fit (Backup input name) past entries = entries
+entries_fit (Restore name output) past entries = tt
+entries_fit (Delete name) past entries = tt
+entries_fit Reclaim past entries = entries
+entries_fit Stat past entries = tt
+
+-- a run that kept its entries
+pub done_keeps_store : (kind : JobKind) (streams : Streams) (before after : Shelves) (store : StateView) (sink sink' : SinkView) (status : ℕ) (done : HasDoneJob kind before after sink sink' status) → done.ending.kept ≡ Ok tt → HasInput kind streams before.files (past_of done.store) (past_of done.new)
+    → IsWholeStore streams before.depot store → IsWholeStore streams after.depot done.new
+done_keeps_store kind streams before after store sink sink' status done kept input_is is =
     let opened = told_store before.depot done.opened.depot done.store is.objects done.opens is.told in
     let same : done.store ≡ store = one_store (bytes_of is.objects journal_name) done.store store opened.journal is.journal in
     let new = map (made done.author) done.points in
@@ -377,22 +392,28 @@ run_keeps_store streams before after store (job_done kind sink sink' status done
     let was = subst (λ (s : StateView). IsOfStreams (numbers_of s.profile) streams (past_of s)) (sym same) is.of_streams in
     let whole = subst (λ (s : StateView). IsWhole (numbers_of s.profile) streams (past_of s) is.objects) (sym same) is.whole in
     let entries = subst (λ (s : StateView). All IsEntry (past_of s)) (sym done.added) (past_valid done.store.entries new opened.journal.journal.valid keeps.0) in
-    let then_whole = job_whole kind streams before after sink sink' status done is.objects is.told input_is entries was whole in
+    let then_whole = job_whole kind streams before after sink sink' status done is.objects is.told input_is (entries_fit kind (past_of done.new) entries) was whole in
     let (now, held_is, text, whole_now) =
-    kept_depot (numbers_of done.store.profile) (AreSound-numbers_of done.store.profile) streams (rules_of 8 8 done.new) (past_of done.new) is.objects done.done.depot after.depot new done.legal entries
+    kept_depot (numbers_of done.store.profile) streams (past_of done.new) is.objects done.done.depot after.depot new
     (ap (λ (s : ShelfView). s.held) keeps.1) then_whole in
     let profile_same : done.store.profile ≡ done.new.profile = ap (λ (s : StateView). s.profile) (sym done.added) in
-    let journal = journal_more (bytes_of is.objects journal_name) done.store new opened.journal keeps.0 (subst IsLegal done.added done.legal) in (
-      done.new,
-      record {
-        objects = now;
-        told = held_is;
-        journal = subst (λ (b : List ℕ). IsJournalOf b done.new) (sym text) (subst (λ (s : StateView). IsJournalOf (bytes_of is.objects journal_name ++ entries_text new) s) (sym done.added) journal);
-        legal = done.legal;
-        of_streams = subst (λ (p : Profile). IsOfStreams (numbers_of p) streams (past_of done.new)) profile_same then_whole.of_streams;
-        whole = subst (λ (p : Profile). IsWhole (numbers_of p) streams (past_of done.new) now) profile_same whole_now;
-      },
-    )
+    let journal = journal_more (bytes_of is.objects journal_name) done.store new opened.journal keeps.0 (subst IsLegal done.added done.legal) in
+    record {
+      objects = now;
+      told = held_is;
+      journal = subst (λ (b : List ℕ). IsJournalOf b done.new) (sym text) (subst (λ (s : StateView). IsJournalOf (bytes_of is.objects journal_name ++ entries_text new) s) (sym done.added) journal);
+      legal = done.legal;
+      of_streams = subst (λ (p : Profile). IsOfStreams (numbers_of p) streams (past_of done.new)) profile_same then_whole.of_streams;
+      whole = subst (λ (p : Profile). IsWhole (numbers_of p) streams (past_of done.new) now) profile_same whole_now;
+    }
+
+-- a run that only read
+pub read_keeps_store : (streams : Streams) (before after : ShelfView) (store : StateView) → after.held ≡ before.held → IsWholeStore streams before store → IsWholeStore streams after store
+read_keeps_store streams before after store same is = record { objects = is.objects; told = same ∙ is.told; journal = is.journal; legal = is.legal; of_streams = is.of_streams; whole = is.whole }
+
+pub run_keeps_store : (streams : Streams) (before after : Shelves) (store : StateView) → KeepsStore streams before after → IsWholeStore streams before.depot store → (new : StateView) × IsWholeStore streams after.depot new
+run_keeps_store streams before after store (only_read same) is = (store, read_keeps_store streams before.depot after.depot store same is)
+run_keeps_store streams before after store (job_done kind sink sink' status done kept input_is) is = (done.new, done_keeps_store kind streams before after store sink sink' status done kept input_is is)
 
 pub runs_keep_store : (streams : Streams) (before after : Shelves) (store : StateView) → KeepStore streams before after → IsWholeStore streams before.depot store → (new : StateView) × IsWholeStore streams after.depot new
 runs_keep_store streams before after store no_run is = (store, is)

@@ -38,7 +38,7 @@ ghost use Rattle.run_streams.specs.Ends.{IsClosedStore, EndsDuly};
 ghost use Rattle.run_streams.specs.Erased.{HasErased, OnlyReadsDepot};
 ghost use Rattle.run_streams.specs.Made.{MakesKnown};
 ghost use Rattle.run_streams.specs.RunStreams.{HasInput, StoresNothing};
-ghost use Rattle.run_streams.specs.Unkept.{KeepsLive};
+ghost use Rattle.run_streams.specs.Unkept.{EntriesFit, KeepsLive};
 ghost use Rattle.run_streams.specs.Wrote.{with_run};
 ghost use Rattle.run_streams.specs.WholeStores.{IsWholeStore, KeepsStore, KeepStore};
 
@@ -199,6 +199,15 @@ pub fn stores_stay_whole()
         → KeepStore streams before after
         → IsWholeStore streams before.depot store
         → (new : StateView) × IsWholeStore streams after.depot new }
+    // No session and no reading is unfinished in them.
+    ensures first_closed { (streams : Streams) (depot : ShelfView) (objects : Objects) (profile : Profile)
+        → depot.held ≡ Some objects
+        → bytes_of objects journal_name ≡ journal_text profile []
+        → IsClosedStore streams depot (store_of profile []) }
+    ensures closed { (streams : Streams) (before after : Shelves) (store : StateView)
+        → KeepStore streams before after
+        → IsClosedStore streams before.depot store
+        → (new : StateView) × IsClosedStore streams after.depot new }
     // The depot tells which store it is.
     ensures same { (streams : Streams) (depot : ShelfView) (one other : StateView)
         → IsWholeStore streams depot one → IsWholeStore streams depot other → one ≡ other }
@@ -206,15 +215,15 @@ pub fn stores_stay_whole()
 
 /// Where the append of its entries failed, a run from a whole store leaves each manifest still whole that is live in the
 /// history that was found and in the one with these entries: its text and its places are as they were. Behind the journal
-/// a front of the entries' texts may stand. A backup's stream is its input's bytes, and the entries are asked to be within
-/// the bounds of a journal's. It runs nothing.
+/// a front of the entries' texts may stand. A backup's stream is its input's bytes, and the entries of a backup and of a
+/// reclaim are asked to be within the bounds of a journal's. It runs nothing.
 pub fn live_stays_whole_unkept()
     ensures { (kind : JobKind) (streams : Streams) (store : StateView) (before after : Shelves) (sink sink' : SinkView) (status : ℕ) (fault : AppendFault)
         → (done : HasDoneJob kind before after sink sink' status)
         → done.ending.kept ≡ Err fault
         → (is : IsWholeStore streams before.depot store)
         → HasInput kind streams before.files (past_of done.store) (past_of done.new)
-        → All IsEntry (past_of done.new)
+        → EntriesFit kind (past_of done.new)
         → KeepsLive (numbers_of store.profile) streams (past_of store) (past_of done.new) (map (made done.author) done.points) is.objects after.depot }
 {}
 

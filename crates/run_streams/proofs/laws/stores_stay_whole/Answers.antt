@@ -1,3 +1,4 @@
+use Rattle.run_streams.proofs.ClosedStoreLaws.{runs_keep_closed, first_closed}
 use Rattle.run_streams.proofs.WholeRunLaws.{run_keeps_store, runs_keep_store, same_store, first_store}
 use Rattle.run_streams.proofs.laws.stores_stay_whole.Goals as goal
 
@@ -12,3 +13,9 @@ returns-clause-same c = λ streams depot one other is is_too. same_store streams
 
 pub returns-clause-first : goal.returns-clause-first
 returns-clause-first c = λ streams depot objects profile told text. first_store streams depot objects profile told text
+
+pub returns-clause-first_closed : goal.returns-clause-first_closed
+returns-clause-first_closed c = λ streams depot objects profile told text. first_closed streams depot objects profile told text
+
+pub returns-clause-closed : goal.returns-clause-closed
+returns-clause-closed c = λ streams before after store runs is. runs_keep_closed streams before after store runs is
