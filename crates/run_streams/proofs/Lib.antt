@@ -14,3 +14,4 @@ pub mod DueLaws
 pub mod BackupDueLaws
 pub mod RunDueLaws
 pub mod ClosedStoreLaws
+pub mod ReclaimFitLaws
