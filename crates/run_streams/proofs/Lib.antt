@@ -16,3 +16,4 @@ pub mod DueLaws
 pub mod BackupDueLaws
 pub mod RunDueLaws
 pub mod ClosedStoreLaws
+pub mod ReclaimFitLaws

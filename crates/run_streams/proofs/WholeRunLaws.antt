@@ -72,7 +72,8 @@ use Rattle.run_streams.specs.Unkept.{EntriesFit}
 use Rattle.run_streams.specs.WholeStores.{IsWholeStore, KeepsStore, KeepStore}
 use Rattle.run_streams.specs.WholeStores.KeepsStore.{job_done, only_read}
 use Rattle.run_streams.specs.WholeStores.KeepStore.{no_run, one_more}
-use Rattle.run_streams.proofs.OpenedLaws.{told_store, entries_in}
+use Rattle.run_streams.proofs.OpenedLaws.{told_store, entries_in, store_entries}
+use Rattle.run_streams.proofs.ReclaimFitLaws.{author_low, reclaims_fit}
 use Rattle.run_streams.proofs.PointLaws.{StoreNothing, restore_stores_nothing, delete_stores_nothing, stat_stores_nothing, reclaim_stores_nothing, entries_store_nothing}
 
 -- ---- entries that commit nothing
@@ -324,9 +325,12 @@ job_whole Stat streams before after sink sink' status done objects told input_is
     still_whole Stat streams before after sink sink' status done objects told was whole (stat_stores_nothing done.answer done.points done.calls) (ap (λ (s : Shelves). s.depot.held) done.job.1)
 job_whole Reclaim streams before after sink sink' status done objects told input_is entries was whole =
     let n = numbers_of done.store.profile in
+    let rules = rules_of 8 8 done.new in
+    let older = store_entries (bytes_of objects journal_name) done.store (told_store before.depot done.opened.depot done.store objects done.opens told) in
+    let fit = reclaims_fit rules done.author (author_low (past_of done.store) done.author done.author_is) done.store done.new done.opened.depot done.done.depot done.answer done.job.0 older done.legal in
     let of_now = still_of Reclaim streams before after sink sink' status done objects told was whole (reclaim_stores_nothing done.answer done.points done.calls) in
-    reclaim_then n (AreSound-numbers_of done.store.profile) (rules_of 8 8 done.new) streams objects done.author done.store done.new done.opened.depot done.done.depot done.answer done.job.0
-    (record { legal = done.legal; entries = entries; of_streams = of_now })
+    reclaim_then n (AreSound-numbers_of done.store.profile) rules streams objects done.author done.store done.new done.opened.depot done.done.depot done.answer done.job.0
+    (record { legal = done.legal; entries = fit; of_streams = of_now })
     (at_first Reclaim streams before after sink sink' status done objects told was whole)
 
 -- ---- the kept journal
@@ -378,7 +382,7 @@ entries_fit : (kind : JobKind) (past : List Entry) → All IsEntry past → Entr
 entries_fit (Backup input name) past entries = entries
 entries_fit (Restore name output) past entries = tt
 entries_fit (Delete name) past entries = tt
-entries_fit Reclaim past entries = entries
+entries_fit Reclaim past entries = tt
 entries_fit Stat past entries = tt
 
 -- a run that kept its entries

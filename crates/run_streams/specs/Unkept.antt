@@ -16,12 +16,11 @@ use Rattle.stored_streams.specs.Streams.{Streams}
 use Rattle.stored_streams.specs.Plans.{planned_places, plans_of}
 use Rattle.stored_streams.specs.Whole.{IsManifestWhole, IsWhole}
 use Rattle.job_script.specs.declared.job.JobKind.{JobKind}
-use Rattle.job_script.specs.declared.job.JobKind.TheVariants.{Backup, Reclaim}
+use Rattle.job_script.specs.declared.job.JobKind.TheVariants.{Backup}
 
--- the entries that a backup or a reclaim leaves are within the bounds of a journal's; nothing is asked of another job
+-- the entries that a backup leaves are within the bounds of a journal's; nothing is asked of another job
 abbrev pub EntriesFit : JobKind → List Entry → Type 0
 EntriesFit (Backup input name) past = All IsEntry past
-EntriesFit Reclaim past = All IsEntry past
 EntriesFit _ past = Unit {0}
 
 -- A manifest is whole for a history that went on: its object has the bytes that it had, its places are those that it

@@ -215,8 +215,8 @@ pub fn stores_stay_whole()
 
 /// Where the append of its entries failed, a run from a whole store leaves each manifest still whole that is live in the
 /// history that was found and in the one with these entries: its text and its places are as they were. Behind the journal
-/// a front of the entries' texts may stand. A backup's stream is its input's bytes, and the entries of a backup and of a
-/// reclaim are asked to be within the bounds of a journal's. It runs nothing.
+/// a front of the entries' texts may stand. A backup's stream is its input's bytes, and its entries are asked to be within
+/// the bounds of a journal's. It runs nothing.
 pub fn live_stays_whole_unkept()
     ensures { (kind : JobKind) (streams : Streams) (store : StateView) (before after : Shelves) (sink sink' : SinkView) (status : ℕ) (fault : AppendFault)
         → (done : HasDoneJob kind before after sink sink' status)
