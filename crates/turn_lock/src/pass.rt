@@ -1,4 +1,6 @@
 // Passes and notes.
+ghost use Rattle.std.specs.Prelude.{◌≡◌};
+
 use crate::view::View;
 use atomic_table::{Badge, Seat};
 use std::marker::Model;
@@ -23,6 +25,15 @@ impl Model for Pass {
     ghost view = { λ p. pass_of p.badge.table_id (first_view p.badge.views) };
 
     ghost invariant = { λ p. (p.badge.views ≡ view_of (pass_of p.badge.table_id (first_view p.badge.views)) ∷ []) × (p.number ≡ (pass_of p.badge.table_id (first_view p.badge.views)).number) × (p.next ≡ (pass_of p.badge.table_id (first_view p.badge.views)).next) × ForSome p.next (λ n. n ≤ 2 ^ 32) };
+}
+
+impl Pass {
+    /// Its number, which is the author of its entries.
+    pub fn number(&self) -> u32
+        ensures { result ≡ self.now.number }
+    {
+        self.number
+    }
 }
 
 /// A copy of what a pass has seen.

@@ -1,0 +1,5 @@
+pub mod SightLaws
+pub mod TookLaws
+pub mod StayLaws
+pub mod MayLaws
+pub mod CallLaws
