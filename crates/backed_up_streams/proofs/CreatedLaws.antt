@@ -3,7 +3,7 @@ use Rattle.std.proofs.Common.{◌≡◌, ◌≢◌, ◌⊎◌, ℕ, zero, suc, �
 use mathlib.Core.List.{map}
 use Rattle.std.specs.FinMap as map_of
 use Rattle.std.specs.List.{range_with_len}
-use Rattle.std.proofs.lemmas.Bool.{false≢true, cases_Bool, or_left, or_right}
+use Rattle.std.proofs.lemmas.Bool.{cases_Bool, or_left, or_right}
 use Rattle.std.proofs.lemmas.Bool.Decides.{eqb_tells}
 use Rattle.ss_base.specs.declared.ended.Ended.{Ended}
 use Rattle.ss_base.specs.declared.ids.ManifestId.{ManifestId}
@@ -12,9 +12,7 @@ use Rattle.ss_base.specs.declared.object.Object.{Object}
 use Rattle.ss_base.specs.declared.object.Object.TheVariants.{Manifest as ManifestObject}
 use Rattle.ss_base.specs.declared.profile.Numbers.{Numbers}
 use Rattle.ss_base.specs.KnownObjects.{container_at, manifest_at, numbered, objects_of}
-use Rattle.ss_base.specs.Ids.{same_name}
 use Rattle.ss_base.specs.ObjectName.{object_text}
-use Rattle.ss_base.proofs.IdLaws.{same_name-true, same_name-self}
 use Rattle.ss_base.proofs.MemberLaws.{In, map_in, in_append_left, in_append_right, count_one, count_other}
 use Rattle.manifest_codec.specs.declared.manifest.Manifest.{Manifest}
 use Rattle.container_file.specs.declared.container_end.ContainerEnd.{ContainerEnd}
@@ -42,6 +40,7 @@ use Rattle.segment_store.specs.Stored.{text_against, after_segment}
 use Rattle.stored_streams.specs.Streams.{Streams, manifest_chunks}
 use Rattle.stored_streams.specs.Plans.{Planned, end_of, plan_for}
 use Rattle.stored_streams.specs.Known.{IsKnownName}
+use Rattle.stored_streams.proofs.ListLaws.{same_bytes}
 use Rattle.stored_streams.proofs.PlanLaws.{end_own}
 use Rattle.backed_up_streams.specs.Created.{HasName, CreatesKnown}
 use Rattle.backed_up_streams.proofs.ContentLaws.{self}
@@ -50,16 +49,6 @@ use Rattle.backed_up_streams.proofs.LeftLaws.HasPutSome.{stopped, unwritten, all
 use Rattle.backed_up_streams.proofs.LeftLaws.Closes.{by_finish, by_abort}
 use Rattle.backed_up_streams.proofs.LeftLaws.IsLeft.{untouched, put_some}
 use Rattle.backed_up_streams.proofs.LoadLaws.{text_loaded, commit_point, IsTelling, LoadTold, HasEnded}
-
--- names are the same or differ
-same_bytes : (a b : List ℕ) → (a ≡ b) ⊎ (a ≢ b)
-same_bytes a b =
-    let one : Name = record { 0 = a } in
-    let other : Name = record { 0 = b } in
-    elim (cases_Bool (same_name one other)) [
-      | inl same ↦ inl (ap (λ (n : Name). n.0) (same_name-true one other same))
-      | inr fails ↦ inr (λ same. false≢true (sym fails ∙ subst (λ (c : List ℕ). same_name one (record { 0 = c }) ≡ true) same (same_name-self one)))
-    ]
 
 -- ---- told objects of which each has a name of a kind
 

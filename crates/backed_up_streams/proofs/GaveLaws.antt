@@ -1,8 +1,6 @@
 -- What a depot's shelf tells of its reads, over the calls of a session.
-use Rattle.std.proofs.Common.{◌≡◌, ℕ, ◌*◌, List, [], ◌∷◌, ◌++◌, Option, Some, None, Err, refl, sym, ap, ◌∙◌, inl, inr, append_assoc}
-use Rattle.std.specs.Option.{option_map}
+use Rattle.std.proofs.Common.{◌≡◌, ℕ, ◌*◌, List, [], ◌∷◌, Option, Err, refl, ap, ◌∙◌, inl, inr}
 use Rattle.std.proofs.lemmas.Bool.{cases_Bool}
-use Rattle.std.proofs.lemmas.List.{append-nil}
 use Rattle.ss_base.specs.declared.ids.ManifestId.{ManifestId}
 use Rattle.ss_base.specs.declared.object.Object.TheVariants.{Manifest as ManifestObject}
 use Rattle.ss_base.specs.ObjectName.{object_text}
@@ -11,7 +9,7 @@ use Rattle.manifest_codec.specs.Text.{manifest_text}
 use Rattle.container_file.specs.declared.container_end.ContainerEnd.{ContainerEnd}
 use Rattle.container_file.specs.Layout.{Written as PutBytes}
 use Rattle.segment_plan.specs.Plan.{Located, puts_against}
-use Rattle.outside.specs.Shelf.{Objects, Given, one_more, read_of}
+use Rattle.outside.specs.Shelf.{Objects, read_of}
 use Rattle.outside.specs.Views.{ShelfView}
 use Rattle.outside.specs.declared.trouble.Trouble.{Trouble}
 use Rattle.store_core.specs.View.{KeptView}
@@ -21,40 +19,9 @@ use Rattle.depot.specs.Calls.{HasRead, HasFailed}
 use Rattle.depot.specs.Loading.{LoadAnswer}
 use Rattle.depot.specs.Storing.{PutLeaves, after_put, after_puts}
 use Rattle.depot.specs.Storing.{IsStopped as IsPutStopped}
+use Rattle.stored_streams.proofs.ToldLaws.{GaveMore, gave_same, gave_one, gave_then}
 use Rattle.segment_store.specs.Loads.{after_load, after_loads, IsStopped}
 use Rattle.segment_store.specs.Stored.{after_segment}
-
--- a told list with some more
-abbrev pub with_more : {X : Type 0} → Option (List X) → List X → Option (List X)
-with_more told more = option_map (λ xs. xs ++ more) told
-
--- from one to the other some reads were made
-pub record GaveMore (before after : ShelfView) : Type 0 where
-  pub reads : List Given
-  pub gave : after.gave ≡ with_more before.gave reads
-
-pub more_none : {X : Type 0} (told : Option (List X)) → told ≡ with_more told []
-more_none None = refl
-more_none (Some xs) = ap Some (sym (append-nil xs))
-
-pub more_then : {X : Type 0} (told : Option (List X)) (xs ys : List X) → with_more (with_more told xs) ys ≡ with_more told (xs ++ ys)
-more_then None xs ys = refl
-more_then (Some told) xs ys = ap Some (append_assoc told xs ys)
-
-pub gave_none : (shelf : ShelfView) → shelf.gave ≡ with_more shelf.gave []
-gave_none shelf = more_none shelf.gave
-
-pub gave_same : (before after : ShelfView) → after.gave ≡ before.gave → GaveMore before after
-gave_same before after same = record { reads = []; gave = same ∙ more_none before.gave }
-
-pub gave_one : (before after : ShelfView) (read : Given) → after.gave ≡ one_more before.gave read → GaveMore before after
-gave_one before after read same = record { reads = read ∷ []; gave = same }
-
-pub gave_then : (one two three : ShelfView) → GaveMore one two → GaveMore two three → GaveMore one three
-gave_then one two three first second = record {
-  reads = first.reads ++ second.reads;
-  gave = second.gave ∙ ap (λ (told : Option (List Given)). with_more told second.reads) first.gave ∙ more_then one.gave first.reads second.reads;
-}
 
 -- ---- loads
 

@@ -36,7 +36,7 @@ use Rattle.stored_streams.specs.OfStreams.{next_of, StoresSegment}
 use Rattle.stored_streams.specs.Loads.{Loads, loaded_after, loaded_plans, IsLoadOf, AreLoadsOf, AbortsLoaded, LoadedOf, StoresLoaded}
 use Rattle.stored_streams.proofs.PlanLaws.{end_own}
 use Rattle.backed_up_streams.proofs.ContentLaws.{self}
-use Rattle.backed_up_streams.proofs.GaveLaws.{GaveMore}
+use Rattle.stored_streams.proofs.ToldLaws.{GaveMore}
 use Rattle.backed_up_streams.proofs.LeftLaws.{IsUnwritten, HasPutSome, Closes, IsLeft}
 use Rattle.backed_up_streams.proofs.LeftLaws.Closes.{by_finish, by_abort}
 use Rattle.backed_up_streams.proofs.LeftLaws.IsLeft.{untouched, put_some}

@@ -1,7 +1,6 @@
 -- A depot that tells its reads.
-use Rattle.std.proofs.Common.{◌≡◌, ℕ, zero, suc, ◌*◌, List, [], ◌∷◌, ◌++◌, Option, Some, Result, Ok, Err, refl, sym, ap, ◌∙◌, subst, inl, inr, arith}
+use Rattle.std.proofs.Common.{◌≡◌, ℕ, ◌*◌, List, [], ◌∷◌, ◌++◌, Option, Some, Result, Ok, Err, refl, sym, ap, ◌∙◌, subst, inl}
 use mathlib.Core.List.{map}
-use Rattle.std.specs.List.{Contains}
 use Rattle.std.proofs.lemmas.List.{map-append}
 use Rattle.ss_base.specs.declared.object.Object.TheVariants.{Manifest as ManifestObject}
 use Rattle.ss_base.specs.declared.profile.Numbers.{Numbers}
@@ -22,19 +21,16 @@ use Rattle.stored_streams.specs.Streams.{Streams}
 use Rattle.stored_streams.specs.Plans.{Planned, plans_of, end_of}
 use Rattle.stored_streams.specs.Reads.{IsGiven}
 use Rattle.stored_streams.specs.Reads.Reads.{recorded}
+use Rattle.stored_streams.proofs.ListLaws.{contains_from_in}
 use Rattle.backed_up_streams.specs.OfInput.{IsOfInput}
 use Rattle.backed_up_streams.specs.Loaded.{HasLoaded, ReadsMore}
 use Rattle.backed_up_streams.proofs.AloneLaws.{alone}
-use Rattle.backed_up_streams.proofs.GaveLaws.{with_more, more_then, gave_none, segment_gave}
+use Rattle.stored_streams.proofs.ToldLaws.{with_more, more_then, gave_none}
+use Rattle.backed_up_streams.proofs.GaveLaws.{segment_gave}
 use Rattle.backed_up_streams.proofs.UnstartedLaws.{stores_weaker, unstarted-loaded}
 use Rattle.backed_up_streams.proofs.LoadLaws.{text_loaded, IsTelling, LoadTold, HasEnded}
 use Rattle.backed_up_streams.proofs.BackupLaws.{finished-of_input, failed-of_input}
 use Rattle.backed_up_streams.proofs.RunLaws.{finished-run, failed-run}
-
-pub contains_from_in : {X : Type 0} (x : X) (xs : List X) → In x xs → Contains xs x
-contains_from_in x [] h = absurd h
-contains_from_in x (y ∷ ys) (inl is) = (zero, omega arith, is)
-contains_from_in x (y ∷ ys) (inr later) = let (k, below, is) = contains_from_in x ys later in (suc k, omega (arith, below), is)
 
 -- ---- the reads of a depot
 

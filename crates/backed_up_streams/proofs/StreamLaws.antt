@@ -36,7 +36,8 @@ use Rattle.stored_streams.specs.Streams.{Streams}
 use Rattle.stored_streams.specs.Plans.{Planned}
 use Rattle.backed_up_streams.proofs.AloneLaws.{alone, open_at, chosen_at, is_open_at, is_chosen_at, chose, committed, not_chosen, not_committed, finished, aborted, aborted_chosen, legal_chosen}
 use Rattle.backed_up_streams.proofs.KeptLaws.{all_kept_behind, champions_behind, waits_behind}
-use Rattle.backed_up_streams.proofs.GaveLaws.{GaveMore, gave_same, gave_then, loads_gave, stopped_loads-gave, stopped_puts-gave, puts_gave, segment_gave}
+use Rattle.stored_streams.proofs.ToldLaws.{GaveMore, gave_same, gave_then}
+use Rattle.backed_up_streams.proofs.GaveLaws.{loads_gave, stopped_loads-gave, stopped_puts-gave, puts_gave, segment_gave}
 use Rattle.backed_up_streams.proofs.LeftLaws.{loads_held, stopped_loads-held, same_unwritten, unwritten_then, loads_unwritten, stopped_loads-unwritten, IsUnwritten, HasPutSome}
 use Rattle.backed_up_streams.proofs.LeftLaws.HasPutSome.{stopped, unwritten, all_done}
 use Rattle.backed_up_streams.proofs.LoadLaws.{commit_point, IsTelling, IsSoFar, HasEnded, chosen_so_far, committed_so_far, finished_so, given_up_so, given_up_pending}

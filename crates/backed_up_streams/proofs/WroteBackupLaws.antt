@@ -23,20 +23,21 @@ use Rattle.stored_streams.specs.OfStreams.{HasContents, IsOfStreams}
 use Rattle.stored_streams.specs.Reads.{Reads, IsGiven}
 use Rattle.stored_streams.specs.Reads.Reads.{recorded, held}
 use Rattle.stored_streams.specs.Collision.{Collide}
+use Rattle.stored_streams.proofs.ListLaws.{contains_from_in}
 use Rattle.stored_streams.proofs.LoadLaws.{collides}
 use Rattle.backed_up_streams.specs.OfInput.{IsOfInput}
 use Rattle.backed_up_streams.specs.Loaded.{HasLoaded, ReadsMore}
-use Rattle.backed_up_streams.specs.Wrote.{writes_since, AreWritesOf, WritesMore}
+use Rattle.backed_up_streams.specs.Wrote.{writes_since, AreWritesOf, WritesMore, HasWritten}
 use Rattle.backed_up_streams.proofs.AloneLaws.{alone}
 use Rattle.backed_up_streams.proofs.BackupLaws.{finished-of_input, failed-of_input}
-use Rattle.backed_up_streams.proofs.GaveLaws.{more_none, gave_none}
+use Rattle.stored_streams.proofs.ToldLaws.{more_none, gave_none}
 use Rattle.backed_up_streams.proofs.HeldLaws.{is_holding}
 use Rattle.backed_up_streams.proofs.HeldBackupLaws.{Holds, texts_held, ended-held}
 use Rattle.backed_up_streams.proofs.HeldBackupLaws as holding
 use Rattle.backed_up_streams.proofs.LoadLaws.{IsTelling, HasEnded}
 use Rattle.backed_up_streams.proofs.OfStreamsLaws.{loaded-of_streams}
 use Rattle.backed_up_streams.proofs.RecordedLaws as recording
-use Rattle.backed_up_streams.proofs.RecordedLaws.{contains_from_in, bytes_given, Gave, is_telling, texts_recorded, ended-recorded}
+use Rattle.backed_up_streams.proofs.RecordedLaws.{bytes_given, Gave, is_telling, texts_recorded, ended-recorded}
 use Rattle.backed_up_streams.proofs.RunLaws.{finished-run, failed-run}
 use Rattle.backed_up_streams.proofs.UnstartedLaws.{AddsNoSession, unstarted-adds}
 use Rattle.backed_up_streams.proofs.WroteLaws.{WroteSo, is_writing, nothing_written, as_told, ended-erased, ended-wrote}
@@ -51,9 +52,8 @@ module _ (standings champions : ℕ) (files : ShelfView) (input name : List ℕ)
   abbrev past : List Entry
   past = past_of after.seen
 
-  -- the writes are those of the entries, or there is a collision among what was hashed, and these reads can have given
   abbrev pub Wrote : Reads → Type 0
-  Wrote reads = (writes : List Written) × WritesMore depot depot' writes × (depot'.erased ≡ depot.erased) × (AreWritesOf n streams older past writes ⊎ Collide n streams past (IsGiven (reads ∷ []) past))
+  Wrote reads = HasWritten n streams (reads ∷ []) older past depot depot'
 
   -- ---- no session began
 
@@ -63,8 +63,12 @@ module _ (standings champions : ℕ) (files : ShelfView) (input name : List ℕ)
   unstarted-are (inr is) = record { newer = made before.author (Begin name None) ∷ []; past_is = is; rest = []; writes_are = refl; rest_is = inl refl }
 
   unstarted-wrote : (reads : Reads) (fault : BackupFault) → depot' ≡ depot → HasNotStarted alone standings champions files input name before after fault → Wrote reads
-  unstarted-wrote reads fault same has =
-      ([], ap (λ (s : ShelfView). s.wrote) same ∙ more_none depot.wrote, ap (λ (s : ShelfView). s.erased) same, inl (unstarted-are (unstarted-adds standings champions files input name before after fault has)))
+  unstarted-wrote reads fault same has = record {
+    writes = [];
+    more = ap (λ (s : ShelfView). s.wrote) same ∙ more_none depot.wrote;
+    erased = ap (λ (s : ShelfView). s.erased) same;
+    are = inl (unstarted-are (unstarted-adds standings champions files input name before after fault has));
+  }
 
   -- ---- one that began
 
@@ -75,7 +79,7 @@ module _ (standings champions : ℕ) (files : ShelfView) (input name : List ℕ)
     session-wrote session Told Allowed telling is allowed reads given loaded =
         let Given_by : List ℕ → Type 0 = IsGiven (reads ∷ []) past in
         let now = loaded-of_streams before.seen.profile streams rules (reads ∷ []) older past legal entries was contents loaded in
-        let wrote =
+        let (writes, more_writes, are) =
         subst (λ (p : List Entry). (writes : List Written) × WritesMore depot depot' writes × (AreWritesOf n streams older p writes ⊎ Collide n streams p Given_by)) (sym is.past_is)
         (ended-wrote n streams older before.author session Told Allowed telling depot past depot' is rules Given_by (λ p. Collide n streams p Given_by) (collides n streams Given_by) (AreSound-numbers_of before.seen.profile)
         (subst (λ (p : List Entry). is_legal rules p ≡ true) is.past_is legal)
@@ -83,7 +87,7 @@ module _ (standings champions : ℕ) (files : ShelfView) (input name : List ℕ)
         (subst Allowed is.past_is allowed)
         given
         (subst (λ (p : List Entry). IsOfStreams n streams p ⊎ Collide n streams p Given_by) is.past_is now)) in
-        (wrote.0, wrote.1, ended-erased n streams older before.author session Told Allowed telling depot past depot' is, wrote.2)
+        record { writes = writes; more = more_writes; erased = ended-erased n streams older before.author session Told Allowed telling depot past depot' is; are = are }
 
     -- ---- where the depot tells its reads
 

@@ -37,7 +37,7 @@ use Rattle.stored_streams.specs.Loads.{AreLoadsOf}
 use Rattle.stored_streams.specs.OfStreams.{next_of, ContentOf, StoredOf, EachEntry, IsOfStreams}
 use Rattle.stored_streams.proofs.LoadLaws.{IsKnown, Brings, loads_are}
 use Rattle.backed_up_streams.specs.Wrote.{write_of_put, segment_writes, next_writes, entry_writes, writes_since, IsFrontOf, AreWritesOf, WritesMore}
-use Rattle.backed_up_streams.proofs.GaveLaws.{with_more, more_none, more_then}
+use Rattle.stored_streams.proofs.ToldLaws.{with_more, more_none, more_then}
 use Rattle.backed_up_streams.proofs.LeftLaws.{HasPutSome}
 use Rattle.backed_up_streams.proofs.LeftLaws.HasPutSome.{stopped, unwritten, all_done}
 use Rattle.backed_up_streams.proofs.LoadLaws.{commit_point, IsTelling, LoadTold, PutsPending, HasEnded}

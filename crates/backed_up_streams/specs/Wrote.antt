@@ -17,6 +17,8 @@ use Rattle.depot.specs.Storing.{put_name}
 use Rattle.stored_streams.specs.Streams.{Streams, manifest_chunks, manifest_pieces}
 use Rattle.stored_streams.specs.Plans.{Planned, end_of, located_of, plan_for, plans_of}
 use Rattle.stored_streams.specs.OfStreams.{next_of}
+use Rattle.stored_streams.specs.Reads.{Reads, IsGiven}
+use Rattle.stored_streams.specs.Collision.{Collide}
 
 -- a put, as a depot tells it
 abbrev pub write_of_put : PutBytes → Written
@@ -67,3 +69,11 @@ pub record AreWritesOf (n : Numbers) (streams : Streams) (older past : List Entr
 -- the writes that a depot tells behind those before
 abbrev pub WritesMore : ShelfView → ShelfView → List Written → Type 0
 WritesMore depot depot' writes = depot'.wrote ≡ option_map (λ wrote. wrote ++ writes) depot.wrote
+
+-- What a backup wrote, where its depot tells it: the writes of the entries that were added, or there is a collision among
+-- what was hashed, and these reads can have given. It erased nothing.
+pub record HasWritten (n : Numbers) (streams : Streams) (reads : List Reads) (older past : List Entry) (depot depot' : ShelfView) : Type 0 where
+  pub writes : List Written
+  pub more : WritesMore depot depot' writes
+  pub erased : depot'.erased ≡ depot.erased
+  pub are : AreWritesOf n streams older past writes ⊎ Collide n streams past (IsGiven reads past)

@@ -4,7 +4,7 @@ ghost use Rattle.std.specs.List.{All};
 ghost use Rattle.ss_base.specs.declared.profile.Numbers.{Numbers};
 ghost use Rattle.ss_base.specs.Profile.{numbers_of};
 ghost use Rattle.journal_entry.specs.declared.entry.Entry.{Entry};
-ghost use Rattle.outside.specs.Shelf.{Objects, Given, Written, bytes_of};
+ghost use Rattle.outside.specs.Shelf.{Objects, Given, bytes_of};
 ghost use Rattle.outside.specs.Views.{ShelfView};
 ghost use Rattle.depot.specs.declared.fault.BackupFault.{BackupFault};
 ghost use Rattle.journal_entry.specs.Bounds.{IsEntry};
@@ -24,7 +24,7 @@ ghost use Rattle.backed_up_streams.specs.Loaded.{HasLoaded, ReadsMore};
 ghost use Rattle.backed_up_streams.specs.WholeThen.{IsWholeThen};
 ghost use Rattle.backed_up_streams.specs.NoDamage.{TellsNoDamage};
 ghost use Rattle.backed_up_streams.specs.Created.{CreatesKnown};
-ghost use Rattle.backed_up_streams.specs.Wrote.{AreWritesOf, WritesMore};
+ghost use Rattle.backed_up_streams.specs.Wrote.{HasWritten};
 
 /// A backup by a caller alone, whatever it answers, where its input's shelf tells its objects and the stream of the
 /// session that it began, if any, is the input's bytes: behind a history whose choices and commits are those of its
@@ -138,9 +138,7 @@ pub fn written_by_a_backup()
         → All IsEntry (past_of after.seen)
         → IsOfStreams (numbers_of before.seen.profile) streams (past_of before.seen)
         → (reads : List Given) × ReadsMore depot depot' reads
-        × (writes : List Written) × WritesMore depot depot' writes × (depot'.erased ≡ depot.erased)
-        × (AreWritesOf (numbers_of before.seen.profile) streams (past_of before.seen) (past_of after.seen) writes
-        ⊎ Collide (numbers_of before.seen.profile) streams (past_of after.seen) (IsGiven (recorded reads ∷ []) (past_of after.seen))) }
+        × HasWritten (numbers_of before.seen.profile) streams (recorded reads ∷ []) (past_of before.seen) (past_of after.seen) depot depot' }
     ensures held { (streams : Streams) (objects stored : Objects) (rules : Rules) (standings champions : ℕ) (files : ShelfView) (input name : List ℕ) (before : IdleView) (depot : ShelfView) (after : IdleView) (depot' : ShelfView) (result : Result ℕ BackupFault)
         → BackupAnswer (λ came. came ≡ []) standings champions files input name before depot after depot' result
         → files.held ≡ Some objects
@@ -149,9 +147,7 @@ pub fn written_by_a_backup()
         → is_legal rules (past_of after.seen) ≡ true
         → All IsEntry (past_of after.seen)
         → IsOfStreams (numbers_of before.seen.profile) streams (past_of before.seen)
-        → (writes : List Written) × WritesMore depot depot' writes × (depot'.erased ≡ depot.erased)
-        × (AreWritesOf (numbers_of before.seen.profile) streams (past_of before.seen) (past_of after.seen) writes
-        ⊎ Collide (numbers_of before.seen.profile) streams (past_of after.seen) (IsGiven (held stored ∷ []) (past_of after.seen))) }
+        → HasWritten (numbers_of before.seen.profile) streams (held stored ∷ []) (past_of before.seen) (past_of after.seen) depot depot' }
 {}
 
 /// A collision stays one while a legal history goes on, and beside the reads of more handles. It runs nothing.

@@ -30,7 +30,8 @@ use Rattle.restored_streams.proofs.KeptLaws.{manifest_at}
 use Rattle.restored_streams.proofs.ReadLaws.{IsPart, IsReadFrom}
 use Rattle.restored_streams.proofs.StreamLaws.{IsKnown, EachBegins, one_of, segment_at, segments_kept, first_segments}
 use Rattle.restored_streams.proofs.GivenLaws.{each_begins, tells_before}
-use Rattle.restored_streams.proofs.StopLaws.{GaveMore, Stop, stop_of}
+use Rattle.stored_streams.proofs.ToldLaws.{GaveMore}
+use Rattle.restored_streams.proofs.StopLaws.{Stop, stop_of}
 use Rattle.restored_streams.proofs.StopLaws.Stop.{unmade, behind, within}
 use Rattle.restored_streams.proofs.WholeLaws.{each_begins_whole}
 

@@ -1,30 +1,21 @@
 -- The reads that a whole restore tells.
-use Rattle.std.proofs.Common.{ℕ, List, ◌++◌, flat_map, Some, ap, ◌∙◌, append_assoc}
-use Rattle.std.specs.Prelude.{Result, Ok, Err}
+use Rattle.std.proofs.Common.{List, flat_map, ap, ◌∙◌}
+use Rattle.std.specs.Prelude.{ℕ, Result, Ok, Err}
 use Rattle.store_core.specs.View.{KeptView}
 use Rattle.depot.specs.declared.fault.RestoreFault.{RestoreFault}
-use Rattle.outside.specs.Shelf.{Given}
 use Rattle.outside.specs.Views.{ShelfView}
 use Rattle.restore.specs.Reads.{ManifestRead, after_manifest, after_manifests}
 use Rattle.restore.specs.Copies.{Shelves, StreamCopy}
 use Rattle.restore.specs.Restores.{Calls, RestoreAnswer}
 use Rattle.restore.specs.Restores.RestoreAnswer.{not_asked, exists, not_looked, copied}
+use Rattle.stored_streams.proofs.ToldLaws.{GaveMore, gave_same, gave_then}
 use Rattle.restored_streams.proofs.AnswerLaws.{copy_of}
 use Rattle.restored_streams.proofs.GivenLaws.{reads_for, gave_manifest, gave_manifests}
-use Rattle.restored_streams.proofs.StopLaws.{GaveMore, gave_none, Stop, stop_of}
+use Rattle.restored_streams.proofs.StopLaws.{Stop, stop_of}
 use Rattle.restored_streams.proofs.StopLaws.Stop.{unmade, behind, within}
 
-gave_then : (one two three : ShelfView) → GaveMore one two → GaveMore two three → GaveMore one three
-gave_then one two three (first, was) (second, is) = (
-  first ++ second,
-  λ earlier told. is (earlier ++ first) (was earlier told) ∙ ap (λ (gs : List Given). Some gs) (append_assoc earlier first second),
-)
-
 manifests_gave : (shelf : ShelfView) (ms : List ManifestRead) → GaveMore shelf (after_manifests shelf ms)
-manifests_gave shelf ms = (flat_map reads_for ms, λ earlier told. gave_manifests shelf earlier ms told)
-
-manifest_gave : (shelf : ShelfView) (m : ManifestRead) → GaveMore shelf (after_manifest shelf m)
-manifest_gave shelf m = (reads_for m, λ earlier told. gave_manifest shelf earlier m told)
+manifests_gave shelf ms = record { reads = flat_map reads_for ms; gave = gave_manifests shelf ms }
 
 stop_gave : (output : List ℕ) (before after : Shelves) (kepts : List KeptView) → Stop output before after kepts → GaveMore before.depot after.depot
 stop_gave output before after kepts (unmade leaves gave) = gave
@@ -33,16 +24,16 @@ stop_gave output before after kepts (behind done rest split are gave front) =
 stop_gave output before after kepts (within done m left rest split are part gave front) =
     let whole = after_manifests before.depot done in
     gave_then before.depot whole after.depot (manifests_gave before.depot done)
-    (gave_then whole (after_manifest whole m) after.depot (manifest_gave whole m) gave)
+    (gave_then whole (after_manifest whole m) after.depot (record { reads = reads_for m; gave = gave_manifest whole m }) gave)
 
 copy_gave : (output : List ℕ) (before after : Shelves) (kepts : List KeptView) (result : Result ℕ RestoreFault) → StreamCopy output before after kepts result → GaveMore before.depot after.depot
 copy_gave output before after kepts (Ok count) copy =
     let is = copy_of output before after kepts count copy in
-    (flat_map reads_for is.manifests, λ earlier told. ap (λ (s : ShelfView). s.gave) is.depot ∙ gave_manifests before.depot earlier is.manifests told)
+    record { reads = flat_map reads_for is.manifests; gave = ap (λ (s : ShelfView). s.gave) is.depot ∙ gave_manifests before.depot is.manifests }
 copy_gave output before after kepts (Err fault) copy = stop_gave output before after kepts (stop_of output before after kepts fault copy)
 
 pub answer_gave : (calls : Calls → Type 0) (output : List ℕ) (before after : Shelves) (result : Result ℕ RestoreFault) → RestoreAnswer calls output before after result → GaveMore before.depot after.depot
-answer_gave calls output before after result (not_asked why is called failed same) = gave_none before.depot after.depot (ap (λ (s : ShelfView). s.gave) same)
-answer_gave calls output before after result (exists is called there same) = gave_none before.depot after.depot (ap (λ (s : Shelves). s.depot.gave) same)
-answer_gave calls output before after result (not_looked why is called absent same) = gave_none before.depot after.depot (ap (λ (s : Shelves). s.depot.gave) same)
+answer_gave calls output before after result (not_asked why is called failed same) = gave_same before.depot after.depot (ap (λ (s : ShelfView). s.gave) same)
+answer_gave calls output before after result (exists is called there same) = gave_same before.depot after.depot (ap (λ (s : Shelves). s.depot.gave) same)
+answer_gave calls output before after result (not_looked why is called absent same) = gave_same before.depot after.depot (ap (λ (s : Shelves). s.depot.gave) same)
 answer_gave calls output before after result (copied found called absent copy) = copy_gave output before after found.manifests.items result copy

@@ -1,8 +1,7 @@
 -- What a restore read is among what its handle's reads can have given.
-use Rattle.std.proofs.Common.{◌≡◌, ◌⊎◌, ℕ, true, List, [], ◌∷◌, ◌++◌, map, flat_map, Some, refl, sym, ap, ◌∙◌, subst, inl, inr, append_assoc, Contains}
+use Rattle.std.proofs.Common.{◌≡◌, ◌⊎◌, ℕ, true, List, [], ◌∷◌, ◌++◌, map, flat_map, Option, Some, refl, sym, ap, ◌∙◌, subst, inl, inr, append_assoc, Contains}
 use Rattle.std.specs.List.{concat}
-use Rattle.std.specs.Option.{option_map}
-use Rattle.std.proofs.lemmas.List.{append-nil, append_cancel_left}
+use Rattle.std.proofs.lemmas.List.{append_cancel_left}
 use Rattle.std.proofs.lemmas.List.Elements.{Contains-append_left}
 use Rattle.ss_base.specs.declared.ids.ManifestId.{ManifestId}
 use Rattle.ss_base.specs.declared.profile.Numbers.{Numbers}
@@ -17,13 +16,14 @@ use Rattle.stored_streams.specs.Streams.{Streams}
 use Rattle.stored_streams.specs.Collision.{IsHashed, Collide}
 use Rattle.stored_streams.specs.Reads.{Reads, IsReadOf, IsGiven}
 use Rattle.stored_streams.specs.Reads.Reads.{recorded, held}
+use Rattle.stored_streams.proofs.ListLaws.{contains_from_in, in_map}
+use Rattle.stored_streams.proofs.ToldLaws.{with_more, more_none, more_then, GaveMore}
 use Rattle.restore.specs.Reads.{Listed, ChunkRead, after_chunk, after_chunks, ManifestRead, after_load, after_manifest, after_manifests, AreManifestsRead, bytes_of_chunks, bytes_of_manifests, text_of}
 use Rattle.restore.specs.Damage.{load_read, chunk_read}
 use Rattle.restored_streams.specs.Restored.{AreRecorded, Tells, bytes_read}
 use Rattle.restored_streams.proofs.KeptLaws.{manifest_at, IsKeptAt}
 use Rattle.restored_streams.proofs.ReadLaws.{IsReadFrom, text_is_held, chunk_is_held}
-use Rattle.restored_streams.proofs.StreamLaws.{IsKnown, AreGivenFor, IsOneOf, EachBegins, contains_in, one_manifest, stream_or}
-use Rattle.restored_streams.proofs.StopLaws.{GaveMore}
+use Rattle.restored_streams.proofs.StreamLaws.{IsKnown, AreGivenFor, IsOneOf, EachBegins, one_manifest, stream_or}
 
 -- ---- the reads that were recorded
 
@@ -33,29 +33,23 @@ reads_of cs = map (λ (c : ChunkRead). chunk_read c.listed c.bytes) cs
 abbrev pub reads_for : ManifestRead → List Given
 reads_for m = load_read m.kept (text_of m) ∷ reads_of m.chunks
 
-gave_chunks : (shelf : ShelfView) (earlier : List Given) (cs : List ChunkRead) → shelf.gave ≡ Some earlier → (after_chunks shelf cs).gave ≡ Some (earlier ++ reads_of cs)
-gave_chunks shelf earlier [] is = is ∙ ap Some (sym (append-nil earlier))
-gave_chunks shelf earlier (c ∷ cs) is =
-    let one = chunk_read c.listed c.bytes in
-    gave_chunks (after_chunk shelf c) (earlier ++ one ∷ []) cs (ap (option_map (λ (gs : List Given). gs ++ one ∷ [])) is)
-    ∙ ap Some (append_assoc earlier (one ∷ []) (reads_of cs))
+gave_chunks : (shelf : ShelfView) (cs : List ChunkRead) → (after_chunks shelf cs).gave ≡ with_more shelf.gave (reads_of cs)
+gave_chunks shelf [] = more_none shelf.gave
+gave_chunks shelf (c ∷ cs) = gave_chunks (after_chunk shelf c) cs ∙ more_then shelf.gave (chunk_read c.listed c.bytes ∷ []) (reads_of cs)
 
-pub gave_manifest : (shelf : ShelfView) (earlier : List Given) (m : ManifestRead) → shelf.gave ≡ Some earlier → (after_manifest shelf m).gave ≡ Some (earlier ++ reads_for m)
-gave_manifest shelf earlier m is =
-    let one = load_read m.kept (text_of m) in
-    gave_chunks (after_load shelf m.kept m.manifest) (earlier ++ one ∷ []) m.chunks (ap (option_map (λ (gs : List Given). gs ++ one ∷ [])) is)
-    ∙ ap Some (append_assoc earlier (one ∷ []) (reads_of m.chunks))
+pub gave_manifest : (shelf : ShelfView) (m : ManifestRead) → (after_manifest shelf m).gave ≡ with_more shelf.gave (reads_for m)
+gave_manifest shelf m = gave_chunks (after_load shelf m.kept m.manifest) m.chunks ∙ more_then shelf.gave (load_read m.kept (text_of m) ∷ []) (reads_of m.chunks)
 
-pub gave_manifests : (shelf : ShelfView) (earlier : List Given) (ms : List ManifestRead) → shelf.gave ≡ Some earlier → (after_manifests shelf ms).gave ≡ Some (earlier ++ flat_map reads_for ms)
-gave_manifests shelf earlier [] is = is ∙ ap Some (sym (append-nil earlier))
-gave_manifests shelf earlier (m ∷ ms) is =
-    gave_manifests (after_manifest shelf m) (earlier ++ reads_for m) ms (gave_manifest shelf earlier m is)
-    ∙ ap Some (append_assoc earlier (reads_for m) (flat_map reads_for ms))
+pub gave_manifests : (shelf : ShelfView) (ms : List ManifestRead) → (after_manifests shelf ms).gave ≡ with_more shelf.gave (flat_map reads_for ms)
+gave_manifests shelf [] = more_none shelf.gave
+gave_manifests shelf (m ∷ ms) =
+    gave_manifests (after_manifest shelf m) ms
+    ∙ ap (λ (told : Option (List Given)). with_more told (flat_map reads_for ms)) (gave_manifest shelf m)
+    ∙ more_then shelf.gave (reads_for m) (flat_map reads_for ms)
 
-in_map : {X Y : Type 0} (f : X → Y) (x : X) (xs : List X) → In x xs → In (f x) (map f xs)
-in_map f x [] h = absurd h
-in_map f x (y ∷ ys) (inl is) = inl (ap f is)
-in_map f x (y ∷ ys) (inr later) = inr (in_map f x ys later)
+-- of told reads
+told_more : (told : Option (List Given)) (earlier reads : List Given) → told ≡ Some earlier → with_more told reads ≡ Some (earlier ++ reads)
+told_more told earlier reads is = ap (λ (t : Option (List Given)). with_more t reads) is
 
 in_flat : {X Y : Type 0} (f : X → List Y) (x : X) (y : Y) (xs : List X) → In x xs → In y (f x) → In y (flat_map f xs)
 in_flat f x y [] h there = absurd h
@@ -63,16 +57,16 @@ in_flat f x y (z ∷ xs) (inl is) there = in_append_left y (f z) (flat_map f xs)
 in_flat f x y (z ∷ xs) (inr later) there = in_append_right y (f z) (flat_map f xs) (in_flat f x y xs later there)
 
 given_bytes : (g : Given) (gave : List Given) → Contains gave g → Contains (map (λ (h : Given). h.bytes) gave) g.bytes
-given_bytes g gave among = contains_in g.bytes (map (λ (h : Given). h.bytes) gave) (in_map (λ (h : Given). h.bytes) g gave (in_Contains g gave among))
+given_bytes g gave among = contains_from_in g.bytes (map (λ (h : Given). h.bytes) gave) (in_map (λ (h : Given). h.bytes) g gave (in_Contains g gave among))
 
 -- a read of one of the manifests is recorded
 read_recorded : (depot : ShelfView) (ms : List ManifestRead) (m : ManifestRead) (gave : List Given) (g : Given) → AreRecorded depot (after_manifests depot ms) gave → In m ms → In g (reads_for m) → Contains (map (λ (h : Given). h.bytes) gave) g.bytes
 read_recorded depot ms m gave g are among there =
     let all = flat_map reads_for ms in
-    let both : Some (are.earlier ++ are.between) ≡ Some (are.earlier ++ all) = sym are.is ∙ gave_manifests depot are.earlier ms are.was in
+    let both : Some (are.earlier ++ are.between) ≡ Some (are.earlier ++ all) = sym are.is ∙ gave_manifests depot ms ∙ told_more depot.gave are.earlier all are.was in
     let lists : are.earlier ++ are.between ≡ are.earlier ++ all = cc in
     let same : are.between ≡ all = append_cancel_left are.earlier are.between all lists in
-    given_bytes g gave (are.among g (subst (λ (l : List Given). Contains l g) (sym same) (contains_in g all (in_flat reads_for m g ms among there))))
+    given_bytes g gave (are.among g (subst (λ (l : List Given). Contains l g) (sym same) (contains_from_in g all (in_flat reads_for m g ms among there))))
 
 chunk_listed : (bytes : List ℕ) (cs : List ChunkRead) → In bytes (bytes_of_chunks cs) → (g : Given) × In g (reads_of cs) × (g.bytes ≡ bytes)
 chunk_listed bytes [] h = absurd h
@@ -148,17 +142,17 @@ read_is_stream n streams rules past s all reads depot ms known retained are kept
 pub tells_before : (depot after : ShelfView) (ms : List ManifestRead) (reads : Reads) → GaveMore (after_manifests depot ms) after → Tells depot after reads → Tells depot (after_manifests depot ms) reads
 tells_before depot after ms (recorded gave) more tells =
     let first = flat_map reads_for ms in
-    let at = gave_manifests depot tells.earlier ms tells.was in
-    let end = more.1 (tells.earlier ++ first) at in
-    let both : Some (tells.earlier ++ tells.between) ≡ Some (tells.earlier ++ first ++ more.0) = sym tells.is ∙ end in
-    let lists : tells.earlier ++ tells.between ≡ tells.earlier ++ first ++ more.0 = cc in
-    let same : tells.between ≡ first ++ more.0 = append_cancel_left tells.earlier tells.between (first ++ more.0) (lists ∙ append_assoc tells.earlier first more.0) in
+    let at = gave_manifests depot ms ∙ told_more depot.gave tells.earlier first tells.was in
+    let end = more.gave ∙ told_more (after_manifests depot ms).gave (tells.earlier ++ first) more.reads at in
+    let both : Some (tells.earlier ++ tells.between) ≡ Some (tells.earlier ++ first ++ more.reads) = sym tells.is ∙ end in
+    let lists : tells.earlier ++ tells.between ≡ tells.earlier ++ first ++ more.reads = cc in
+    let same : tells.between ≡ first ++ more.reads = append_cancel_left tells.earlier tells.between (first ++ more.reads) (lists ∙ append_assoc tells.earlier first more.reads) in
     record {
       earlier = tells.earlier;
       between = first;
       was = tells.was;
       is = at;
-      among = λ read h. tells.among read (subst (λ (l : List Given). Contains l read) (sym same) (Contains-append_left first more.0 read h));
+      among = λ read h. tells.among read (subst (λ (l : List Given). Contains l read) (sym same) (Contains-append_left first more.reads read h));
     }
 tells_before depot after ms (held objects) more tells = tells
 
@@ -184,8 +178,8 @@ hashed_for : (P : List ℕ → Type 0) (ms : List ManifestRead) (m : ManifestRea
 hashed_for P ms m all among =
     let f = λ (x : ManifestRead). text_of x ∷ bytes_of_chunks x.chunks in
     record {
-      text = all (text_of m) (contains_in (text_of m) (bytes_read ms) (in_flat f m (text_of m) ms among (inl refl)));
-      chunks = λ bytes h. all bytes (contains_in bytes (bytes_read ms) (in_flat f m bytes ms among (inr h)));
+      text = all (text_of m) (contains_from_in (text_of m) (bytes_read ms) (in_flat f m (text_of m) ms among (inl refl)));
+      chunks = λ bytes h. all bytes (contains_from_in bytes (bytes_read ms) (in_flat f m bytes ms among (inr h)));
     }
 
 pub hashed_is_stream : (n : Numbers) (streams : Streams) (rules : Rules) (past : List Entry) (s : ℕ) (all : List Reads) (depot : ShelfView) (ms : List ManifestRead) → IsKnown n streams rules past → is_retained s past ≡ true → AreManifestsRead depot ms → map (λ (x : ManifestRead). x.kept) ms ≡ stream_kept s past → ((bytes : List ℕ) → Contains (bytes_read ms) bytes → IsHashed n streams past (IsGiven all past) bytes) → (concat (bytes_of_manifests ms) ≡ streams s) ⊎ Collide n streams past (IsGiven all past)

@@ -1,22 +1,20 @@
 -- The reads of manifests and chunks, each by itself.
-use Rattle.std.proofs.Common.{◌≡◌, ◌≢◌, ◌⊎◌, ℕ, zero, suc, ◌*◌, true, List, [], ◌∷◌, ◌++◌, length, slice_get, map, Some, refl, sym, ap, ◌∙◌, subst, inl, inr, arith}
+use Rattle.std.proofs.Common.{◌≡◌, ◌≢◌, ◌⊎◌, ℕ, zero, suc, ◌*◌, List, [], ◌∷◌, ◌++◌, length, slice_get, map, Some, refl, sym, ap, ◌∙◌, subst, inl, inr, arith}
 use Rattle.std.specs.List.{zip}
-use Rattle.std.proofs.lemmas.Bool.{false≢true, cases_Bool}
 use Rattle.std.proofs.lemmas.List.{append-nil, map-append}
 use Rattle.ss_base.specs.declared.ids.Place.{Place}
 use Rattle.ss_base.specs.declared.name.Name.{Name}
 use Rattle.ss_base.specs.declared.name.Piece.{Piece}
 use Rattle.ss_base.specs.declared.object.Object.TheVariants.{Manifest as ManifestObject}
 use Rattle.ss_base.specs.ObjectName.{object_text}
-use Rattle.ss_base.specs.Ids.{same_name}
 use Rattle.ss_base.proofs.MemberLaws.{In, in_append_left}
-use Rattle.ss_base.proofs.IdLaws.{same_name-self, same_name-true}
 use Rattle.chunk_name.specs.Pieces.{name_of_bytes}
 use Rattle.outside.specs.Shelf.{Objects}
 use Rattle.outside.specs.Views.{ShelfView}
 use Rattle.depot.specs.Loading.{IsLoaded}
 use Rattle.restore.specs.Reads.{Listed, listed_by, ChunkRead, after_chunk, AreChunksRead, ManifestRead, after_load, after_manifest, AreManifestsRead, bytes_of_chunks, chunk_at, text_at, text_of}
 use Rattle.restore.proofs.HeldLaws.{told, chunk_bytes, manifest_unchanged}
+use Rattle.stored_streams.proofs.ListLaws.{same_bytes}
 
 -- ---- lists of pieces and places
 
@@ -96,16 +94,6 @@ chunk_is_held depot objects m rest bytes from is h =
     (subst (λ (l : List (List ℕ)). In bytes l) (sym (map-append f read rest) ∙ ap (map f) (sym from.part.split)) (in_append_left bytes (map f read) (map f rest) there))
 
 -- ---- byte lists with the same names
-
--- bytes are the same or differ
-pub same_bytes : (a b : List ℕ) → (a ≡ b) ⊎ (a ≢ b)
-same_bytes a b =
-    let one : Name = record { 0 = a } in
-    let other : Name = record { 0 = b } in
-    elim (cases_Bool (same_name one other)) [
-      | inl same ↦ inl (ap (λ (n : Name). n.0) (same_name-true one other same))
-      | inr fails ↦ inr (λ same. false≢true (sym fails ∙ subst (λ (c : List ℕ). same_name one (record { 0 = c }) ≡ true) same (same_name-self one)))
-    ]
 
 -- two that differ, of which the one is of one kind and the other of another
 pub record Differ (P Q : List ℕ → Type 0) : Type 0 where

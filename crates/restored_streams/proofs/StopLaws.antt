@@ -1,15 +1,14 @@
 -- What a restore that stopped had read, and what its output holds.
-use Rattle.std.proofs.Common.{◌≡◌, ℕ, List, [], ◌∷◌, ◌++◌, map, Some, sym, ap, ◌∙◌, subst, inl, inr, append_assoc}
+use Rattle.std.proofs.Common.{◌≡◌, ℕ, List, [], ◌∷◌, ◌++◌, map, sym, ap, ◌∙◌, subst, inl, inr, append_assoc}
 use Rattle.std.specs.Prelude.{Err}
 use Rattle.std.specs.List.{concat}
-use Rattle.std.specs.Option.{option_map}
 use Rattle.std.proofs.lemmas.List.{append-nil, map-append}
 use Rattle.std.proofs.lemmas.List.Folds.{concat-append}
 use Rattle.ss_base.specs.declared.ids.Place.{Place}
 use Rattle.ss_base.specs.declared.name.Piece.{Piece}
 use Rattle.manifest_codec.specs.declared.manifest.Manifest.{Manifest}
 use Rattle.store_core.specs.View.{KeptView}
-use Rattle.outside.specs.Shelf.{Given, read_of, AppendLeaves, CreateLeaves}
+use Rattle.outside.specs.Shelf.{read_of, AppendLeaves, CreateLeaves}
 use Rattle.outside.specs.Views.{ShelfView}
 use Rattle.outside.proofs.ObjectLaws.{with_added-with_object}
 use Rattle.depot.specs.declared.fault.LoadFault.{LoadFault}
@@ -20,6 +19,7 @@ use Rattle.depot.specs.declared.fault.RestoreFault.{RestoreFault}
 use Rattle.depot.specs.Calls.{HasRead, WantsMemory}
 use Rattle.depot.specs.Chunks.{IsChunkRead, ChunkAnswer}
 use Rattle.depot.specs.Loading.{IsLoaded, LoadAnswer}
+use Rattle.stored_streams.proofs.ToldLaws.{GaveMore, gave_same, gave_one}
 use Rattle.restore.specs.Reads.{Listed, listed_by, ChunkRead, after_chunk, after_chunks, AreChunksRead, ManifestRead, after_load, after_manifest, after_manifests, AreManifestsRead, bytes_of_chunks, bytes_of_manifests}
 use Rattle.restore.specs.Output.{with_output, HoldsFront}
 use Rattle.restore.specs.Output.HoldsFront.{holds}
@@ -33,32 +33,23 @@ use Rattle.restored_streams.proofs.ReadLaws.{IsPart}
 
 -- ---- reads that answered behind others
 
--- where the reads are told, there are these more
-abbrev pub GaveMore : ShelfView → ShelfView → Type 0
-GaveMore before after = (more : List Given) × ((earlier : List Given) → before.gave ≡ Some earlier → after.gave ≡ Some (earlier ++ more))
-
-pub gave_none : (before after : ShelfView) → after.gave ≡ before.gave → GaveMore before after
-gave_none before after same = ([], λ earlier is. same ∙ is ∙ ap Some (sym (append-nil earlier)))
-
-gave_one : (before after : ShelfView) (name : List ℕ) (at max : ℕ) (bytes : List ℕ) → HasRead before after name at max bytes → GaveMore before after
-gave_one before after name at max bytes read =
-    let one = read_of name at max bytes in
-    (one ∷ [], λ earlier is. ap (λ (s : ShelfView). s.gave) read.call ∙ ap (option_map (λ (gs : List Given). gs ++ one ∷ [])) is)
+read_gave : (before after : ShelfView) (name : List ℕ) (at max : ℕ) (bytes : List ℕ) → HasRead before after name at max bytes → GaveMore before after
+read_gave before after name at max bytes read = gave_one before after (read_of name at max bytes) (ap (λ (s : ShelfView). s.gave) read.call)
 
 gave_wanting : (before after : ShelfView) → WantsMemory before after → GaveMore before after
-gave_wanting before after (inl same) = gave_none before after (ap (λ (s : ShelfView). s.gave) same)
-gave_wanting before after (inr called) = gave_none before after (ap (λ (s : ShelfView). s.gave) called)
+gave_wanting before after (inl same) = gave_same before after (ap (λ (s : ShelfView). s.gave) same)
+gave_wanting before after (inr called) = gave_same before after (ap (λ (s : ShelfView). s.gave) called)
 
 gave_load : (before after : ShelfView) (kept : KeptView) (why : LoadFault) → LoadAnswer before after kept (Err why) → GaveMore before after
-gave_load before after kept load.Shelf answer = gave_none before after (ap (λ (s : ShelfView). s.gave) answer.call)
-gave_load before after kept (load.Damaged want got) answer = gave_one before after _ _ _ answer.bytes answer.given
-gave_load before after kept (load.Unlike text) answer = gave_one before after _ _ _ answer.bytes answer.given
+gave_load before after kept load.Shelf answer = gave_same before after (ap (λ (s : ShelfView). s.gave) answer.call)
+gave_load before after kept (load.Damaged want got) answer = read_gave before after _ _ _ answer.bytes answer.given
+gave_load before after kept (load.Unlike text) answer = read_gave before after _ _ _ answer.bytes answer.given
 gave_load before after kept load.Memory (inl wants) = gave_wanting before after wants
-gave_load before after kept load.Memory (inr read) = gave_one before after _ _ _ read.0 read.1
+gave_load before after kept load.Memory (inr read) = read_gave before after _ _ _ read.0 read.1
 
 gave_chunk : (before after : ShelfView) (place : Place) (piece : Piece) (why : ReadFault) → ChunkAnswer before after place piece (Err why) → GaveMore before after
-gave_chunk before after place piece chunk.Shelf answer = gave_none before after (ap (λ (s : ShelfView). s.gave) answer.call)
-gave_chunk before after place piece (chunk.Damaged want got) answer = gave_one before after _ _ _ answer.bytes answer.given
+gave_chunk before after place piece chunk.Shelf answer = gave_same before after (ap (λ (s : ShelfView). s.gave) answer.call)
+gave_chunk before after place piece (chunk.Damaged want got) answer = read_gave before after _ _ _ answer.bytes answer.given
 gave_chunk before after place piece chunk.Memory wants = gave_wanting before after wants
 
 -- ---- how a restore stopped
@@ -123,7 +114,7 @@ module _ (output : List ℕ) (before after : Shelves) (kepts : List KeptView) (d
         split = pushed;
         read = AreChunksRead-push mid chunks c are (subst (λ (s : ShelfView). IsChunkRead (after_chunks mid chunks) s listed.1 listed.0 bytes) now one);
       })
-      (gave_none (after_chunks mid (chunks ++ c ∷ [])) after.depot (ap (λ (s : ShelfView). s.gave) (now ∙ sym (after_chunks-push mid chunks c))))
+      (gave_same (after_chunks mid (chunks ++ c ∷ [])) after.depot (ap (λ (s : ShelfView). s.gave) (now ∙ sym (after_chunks-push mid chunks c))))
       (subst (λ (l : List (List ℕ)). HoldsFront output before.files after.files (concat l)) joined front)
 
 at_manifest : (output : List ℕ) (before after : Shelves) (kepts : List KeptView) (done : List ManifestRead) (kept : KeptView) (rest : List KeptView) (fault : RestoreFault) → kepts ≡ map (λ (m : ManifestRead). m.kept) done ++ kept ∷ rest → AreManifestsRead before.depot done
@@ -138,7 +129,7 @@ at_manifest output before after kepts done kept rest fault split read (in_chunks
     (subst (λ (f : ShelfView). StopsAtChunk output (record { files = f; depot = after_chunks mid stop.done }) after stop.listed fault) (more_output before.files output (bytes_of_manifests done) (bytes_of_chunks stop.done)) stop.stops))
 
 pub stop_of : (output : List ℕ) (before after : Shelves) (kepts : List KeptView) (fault : RestoreFault) → StreamCopy output before after kepts (Err fault) → Stop output before after kepts
-stop_of output before after kepts fault (not_made why is failed same) = unmade failed.objects (gave_none before.depot after.depot (ap (λ (s : ShelfView). s.gave) same))
+stop_of output before after kepts fault (not_made why is failed same) = unmade failed.objects (gave_same before.depot after.depot (ap (λ (s : ShelfView). s.gave) same))
 stop_of output before after kepts fault (made stop) =
     at_manifest output before after kepts stop.done stop.kept stop.rest fault stop.split stop.read
     (subst (λ (f : ShelfView). StopsAtManifest output (record { files = f; depot = after_manifests before.depot stop.done }) after stop.kept fault) (output-joined before.files output (bytes_of_manifests stop.done)) stop.stops)

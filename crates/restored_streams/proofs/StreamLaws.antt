@@ -1,5 +1,5 @@
 -- What a restore read is the stream, or there is a collision.
-use Rattle.std.proofs.Common.{◌≡◌, ◌⊎◌, ℕ, zero, suc, ◌<◌, ◌≤◌, true, List, [], ◌∷◌, ◌++◌, length, drop, slice_get, map, Some, refl, sym, ap, ◌∙◌, inl, inr, arith, Contains}
+use Rattle.std.proofs.Common.{◌≡◌, ◌⊎◌, ℕ, zero, suc, ◌<◌, ◌≤◌, true, List, [], ◌∷◌, ◌++◌, length, drop, slice_get, map, Some, refl, sym, ap, ◌∙◌, inl, inr, arith}
 use Rattle.std.specs.List.{All, concat, count_by, slice_index_or}
 use Rattle.std.proofs.lemmas.List.{length-map, length-append, append_assoc, append-nil}
 use Rattle.std.proofs.Math.Seq.{drop-length}
@@ -26,12 +26,13 @@ use Rattle.stored_streams.specs.Streams.{Streams, segment_count, manifest_chunks
 use Rattle.stored_streams.specs.Plans.{planned_places, plans_of, text_of as planned_text}
 use Rattle.stored_streams.specs.OfStreams.{IsOfStreams}
 use Rattle.stored_streams.specs.Collision.{Collide}
+use Rattle.stored_streams.proofs.ListLaws.{same_bytes, contains_from_in}
 use Rattle.stored_streams.proofs.CommittedLaws.{IsKeptOf, committed_kept, committed_manifest}
 use Rattle.restore.specs.Reads.{Listed, ManifestRead, AreManifestsRead, bytes_of_chunks, bytes_of_manifests, text_of}
 use Rattle.restored_streams.proofs.HeldLaws.{flat, segments_whole}
 use Rattle.restored_streams.proofs.CompleteLaws.{finished_complete, commits_chosen}
 use Rattle.restored_streams.proofs.KeptLaws.{manifest_at, IsKeptAt, row_length, row_at}
-use Rattle.restored_streams.proofs.ReadLaws.{IsPart, IsReadFrom, read_from, names_listed, names_of_pieces, same_bytes, IsFront, front_or_differ, front_is_whole}
+use Rattle.restored_streams.proofs.ReadLaws.{IsPart, IsReadFrom, read_from, names_listed, names_of_pieces, IsFront, front_or_differ, front_is_whole}
 
 -- what is known of the entries
 pub record IsKnown (n : Numbers) (streams : Streams) (rules : Rules) (past : List Entry) : Type 0 where
@@ -46,11 +47,6 @@ pub record IsKnown (n : Numbers) (streams : Streams) (rules : Rules) (past : Lis
 pub record AreGivenFor (given : List ℕ → Type 0) (m : ManifestRead) : Type 0 where
   pub text : given (text_of m)
   pub chunks : (bytes : List ℕ) → In bytes (bytes_of_chunks m.chunks) → given bytes
-
-pub contains_in : {X : Type 0} (x : X) (xs : List X) → In x xs → Contains xs x
-contains_in x [] h = absurd h
-contains_in x (y ∷ ys) (inl is) = (zero, omega arith, is)
-contains_in x (y ∷ ys) (inr later) = let (k, below, is) = contains_in x ys later in (suc k, omega (arith, below), is)
 
 pub text_planned : (n : Numbers) (streams : Streams) (past : List Entry) (id : ManifestId) (m : ManifestRead) → text_of m ≡ planned_text n streams id past → manifest_text m.manifest.pieces.items m.manifest.places.items ≡ manifest_text (manifest_pieces n streams id) (planned_places id (plans_of n streams past))
 unfolding planned_text
@@ -95,7 +91,7 @@ one_manifest n streams rules past given s q m rest shelf known at chosen part ga
               differ = two.differ;
               same = two.same;
               hashed = inr (inr two.first);
-              hashed_too = inl (record { id = id; chosen = chosen; chunk = contains_in two.other (manifest_chunks n streams id) two.second });
+              hashed_too = inl (record { id = id; chosen = chosen; chunk = contains_from_in two.other (manifest_chunks n streams id) two.second });
             })
           ]
       | inr differ ↦ inr (record {

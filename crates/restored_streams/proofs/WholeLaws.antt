@@ -22,12 +22,13 @@ use Rattle.outside.specs.Views.{ShelfView}
 use Rattle.stored_streams.specs.Streams.{Streams, manifest_chunks, manifest_pieces}
 use Rattle.stored_streams.specs.Plans.{planned_places, plans_of, text_of as planned_text}
 use Rattle.stored_streams.specs.Whole.{IsWhole}
+use Rattle.stored_streams.proofs.ListLaws.{contains_from_in}
 use Rattle.stored_streams.proofs.CommittedLaws.{committed_kept, committed_manifest, kept_counts}
 use Rattle.restore.specs.Reads.{Listed, ManifestRead, AreManifestsRead, bytes_of_chunks, bytes_of_manifests, text_of, text_at}
 use Rattle.restored_streams.specs.Restored.{IsBegunChunk, ChunksCollide}
 use Rattle.restored_streams.proofs.KeptLaws.{manifest_at, IsKeptAt}
 use Rattle.restored_streams.proofs.ReadLaws.{IsReadFrom, names_listed, text_is_held, chunk_is_held, front_or_differ}
-use Rattle.restored_streams.proofs.StreamLaws.{IsKnown, BeginsSegment, EachBegins, contains_in, text_planned, names_same, stream_or}
+use Rattle.restored_streams.proofs.StreamLaws.{IsKnown, BeginsSegment, EachBegins, text_planned, names_same, stream_or}
 
 -- ---- one manifest
 
@@ -71,7 +72,7 @@ one_whole n streams rules past objects s q depot m rest known whole retained hel
     let made = chunk_is_held depot objects m rest b from held h in
     let one = there.chunks made.number made.piece made.place (subst (λ (ps : List Piece). slice_get ps made.number ≡ Some made.piece) both.0 made.piece_there) (subst (λ (ps : List Place). slice_get ps made.number ≡ Some made.place) both.1 made.place_there) in
     subst P (sym made.is) (record { id = one.id; begun = one.begun; chunk = one.chunk }))
-    (λ c h. record { id = id; begun = begun; chunk = contains_in c (manifest_chunks n streams id) h })
+    (λ c h. record { id = id; begun = begun; chunk = contains_from_in c (manifest_chunks n streams id) h })
     (names_same n streams past id m rest from.shelf sound is from.part same)) [
       | inl front ↦ inl front
       | inr two ↦ inr (record { one = two.one; other = two.other; differ = two.differ; same = two.same; begun = two.first; begun_too = two.second })

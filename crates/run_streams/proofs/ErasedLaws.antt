@@ -16,7 +16,7 @@ use Rattle.store_core.specs.declared.fault.PointFault.TheVariants as point
 use Rattle.store_core.specs.View.{StateView, made}
 use Rattle.store_core.specs.Answers.{reclaim_entry}
 use Rattle.restore.specs.Copies.{Shelves}
-use Rattle.backed_up_streams.proofs.GaveLaws.{with_more, more_none, more_then}
+use Rattle.stored_streams.proofs.ToldLaws.{with_more, more_none, more_then}
 use Rattle.report.specs.declared.answer.JobAnswer.{JobAnswer}
 use Rattle.report.specs.declared.answer.JobAnswer.TheVariants as job
 use Rattle.report.specs.declared.answer.ReclaimFault.TheVariants as reclaim
@@ -25,7 +25,8 @@ use Rattle.job_script.specs.declared.job.JobKind.TheVariants.{Backup, Restore, D
 use Rattle.job_run.specs.Erasing.{worse, IsErased, AreErased, HasReclaimed, LastReclaim, ReclaimsDone}
 use Rattle.job_run.specs.Erasing.HasReclaimed.{none, more}
 use Rattle.job_run.specs.Erasing.LastReclaim.{few, troubled, unmade}
-use Rattle.store_run.specs.JobRun.{Kept, KeepAnswer, HasDoneJob}
+use Rattle.store_run.specs.JobRun.{Kept, HasDoneJob}
+use Rattle.run_streams.proofs.KeepLaws.{keep_erased}
 use Rattle.run_streams.specs.Erased.{objects_in, reclaimed, AreAllBut, RoseBy, HasErased, OnlyReadsDepot}
 
 -- ---- all names but some
@@ -202,10 +203,6 @@ last_erases author old new depot depot' answer (unmade point.Memory answer_is re
     record { met = None; so = none_reclaimed old new None depot depot' refused same; wanted = λ is. absurd (cc) }
 
 -- ---- a run
-
-pub keep_erased : (before after : ShelfView) (entries : List Entry) (kept : Kept) → KeepAnswer before after entries kept → after.erased ≡ before.erased
-keep_erased before after entries (Ok done) keeps = ap (λ (d : ShelfView). d.erased) keeps.1
-keep_erased before after entries (Err fault) keeps = ap (λ (d : ShelfView). d.erased) keeps.1
 
 full_too : (last done after : ℕ) → last ≤ done → done < after → last ≤ after
 full_too last done after full once = omega (arith, full, once)

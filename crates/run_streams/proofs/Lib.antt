@@ -1,4 +1,5 @@
 pub mod OpenedLaws
+pub mod KeepLaws
 pub mod StatusLaws
 pub mod RestoreLaws
 pub mod PointLaws

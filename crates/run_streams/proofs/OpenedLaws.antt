@@ -10,7 +10,6 @@ use Rattle.journal_file.specs.Header.{journal_name}
 use Rattle.outside.specs.Shelf.{Objects, Given, bytes_of}
 use Rattle.outside.specs.Views.{ShelfView}
 use Rattle.store_core.specs.View.{StateView, past_of}
-use Rattle.store_run.specs.JobRun.{Kept, KeepAnswer}
 use Rattle.store_run.specs.Opening.{store_of, Reading, FollowsFrom, Opens, IsOpening, IsStore}
 
 pub told_store : (depot depot' : ShelfView) (store : StateView) (objects : Objects) → Opens depot depot' (Ok store) → depot.held ≡ Some objects → IsStore (bytes_of objects journal_name) store
@@ -47,8 +46,3 @@ pub opened_gave : (depot depot' : ShelfView) (store : StateView) (earlier : List
 opened_gave depot depot' store earlier opens told =
     let pieces = opens.reads.gave.pieces in
     (earlier ++ reads_from 0 pieces, opens.reads.gave.gave ∙ ap (λ (gave : Option (List Given)). with_reads gave pieces) told)
-
--- keeping entries reads nothing
-pub keep_gave : (before after : ShelfView) (entries : List Entry) (kept : Kept) → KeepAnswer before after entries kept → after.gave ≡ before.gave
-keep_gave before after entries (Ok done) keeps = ap (λ (d : ShelfView). d.gave) keeps.1
-keep_gave before after entries (Err fault) keeps = ap (λ (d : ShelfView). d.gave) keeps.1

@@ -1,7 +1,6 @@
 -- A restore that answered, as a run of its command.
-use Rattle.std.proofs.Common.{◌≡◌, ℕ, List, [], ◌∷◌, ◌++◌, map, Option, Some, refl, sym, ap, ◌∙◌, subst, ◌⊎◌, inl, inr, arith}
+use Rattle.std.proofs.Common.{◌≡◌, ℕ, List, [], ◌∷◌, map, Option, Some, refl, sym, ap, ◌∙◌, subst, ◌⊎◌, inl, inr, arith}
 use Rattle.std.specs.Prelude.{Result, Ok, Err}
-use Rattle.std.specs.Option.{option_map}
 use Rattle.ss_base.specs.declared.profile.Numbers.{Numbers}
 use Rattle.ss_base.specs.Profile.{numbers_of}
 use Rattle.ss_base.proofs.SoundLaws.{AreSound-numbers_of}
@@ -21,6 +20,7 @@ use Rattle.stored_streams.specs.Whole.{IsWhole}
 use Rattle.restored_streams.specs.Restored.{AreRecorded, Tells, HasRestored, LeavesFront, TellsNoDamage, ChunksCollide}
 use Rattle.restored_streams.proofs.StreamLaws.{IsKnown}
 use Rattle.restored_streams.proofs.CallLaws.{answered_stream, answered_whole, answered_front, answered_undamaged, answered_front_whole}
+use Rattle.stored_streams.proofs.ToldLaws.{with_more}
 use Rattle.restored_streams.proofs.GaveLaws.{answer_gave}
 use Rattle.backed_up_streams.specs.Loaded.{ReadsMore}
 use Rattle.job_script.specs.declared.job.JobKind.TheVariants.{Restore}
@@ -30,7 +30,8 @@ use Rattle.job_run.specs.Jobs.{answer_of}
 use Rattle.report.specs.Status.{answer_status}
 use Rattle.store_run.specs.JobRun.{Kept, Printed, run_status, HasDoneJob}
 use Rattle.run_streams.proofs.StatusLaws.{refused_is_told}
-use Rattle.run_streams.proofs.OpenedLaws.{store_entries, read_store, opened_gave, keep_gave}
+use Rattle.run_streams.proofs.KeepLaws.{keep_gave}
+use Rattle.run_streams.proofs.OpenedLaws.{store_entries, read_store, opened_gave}
 
 -- where the run's status is 0 the restore answered, and it is known what its answer says
 by_result : (C : ShelfView → ShelfView → Type 0) (store new : StateView) (author : ℕ) (name output : List ℕ) (old now : Shelves) (answer : JobAnswer) (result : Result ℕ RestoreFault) (kept : Kept) (printed : Printed)
@@ -113,14 +114,17 @@ module _ (streams : Streams) (name output : List ℕ) (before after : Shelves) (
   job_reads : (earlier : List Given) → before.depot.gave ≡ Some earlier → JobReads
   job_reads earlier told =
       let (now, opened) = opened_gave before.depot done.opened.depot done.store earlier done.opens told in
-      let (reads, more) = answer_gave (StateCalls done.store done.author name done.new) output done.opened done.done done.job.result done.job.done in
-      let is : done.done.depot.gave ≡ Some (now ++ reads) = more now opened in
+      let job = answer_gave (StateCalls done.store done.author name done.new) output done.opened done.done done.job.result done.job.done in
       record {
-        reads = reads;
-        more =
-            keep_gave done.done.depot after.depot (map (made done.author) done.points) done.ending.kept done.ending.keeps
-            ∙ is ∙ ap (λ (gave : Option (List Given)). option_map (λ (gs : List Given). gs ++ reads) gave) (sym opened);
-        tells = record { earlier = now; between = reads; was = opened; is = is; among = λ read there. there };
+        reads = job.reads;
+        more = keep_gave done.done.depot after.depot (map (made done.author) done.points) done.ending.kept done.ending.keeps ∙ job.gave;
+        tells = record {
+          earlier = now;
+          between = job.reads;
+          was = opened;
+          is = job.gave ∙ ap (λ (told : Option (List Given)). with_more told job.reads) opened;
+          among = λ read there. there;
+        };
       }
 
   pub given_back_recorded : 0 ≡ status → (earlier : List Given) → before.depot.gave ≡ Some earlier → (reads : List Given) × ReadsMore done.opened.depot after.depot reads × (Restored before.files after.files ⊎ Collide n streams past (IsGiven (recorded reads ∷ []) past))

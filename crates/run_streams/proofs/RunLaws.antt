@@ -28,7 +28,7 @@ use Rattle.job_script.specs.declared.job.JobKind.TheVariants.{Backup, Restore, D
 use Rattle.store_run.specs.JobRun.{HasDoneJob}
 use Rattle.store_run.specs.Opening.{IsLegal}
 use Rattle.run_streams.specs.RunStreams.{HasFile, HasInput, StoresNothing}
-use Rattle.run_streams.proofs.OpenedLaws.{keep_gave}
+use Rattle.run_streams.proofs.KeepLaws.{keep_gave}
 use Rattle.run_streams.proofs.PointLaws.{StoreNothing, restore_stores_nothing, delete_stores_nothing, stat_stores_nothing, reclaim_stores_nothing, entries_store_nothing}
 
 module _ (kind : JobKind) (streams : Streams) (before after : Shelves) (sink sink' : SinkView) (status : ℕ) (done : HasDoneJob kind before after sink sink' status) where

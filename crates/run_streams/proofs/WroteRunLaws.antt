@@ -1,6 +1,5 @@
 -- What a run wrote to its depot.
-use Rattle.std.proofs.Common.{◌≡◌, ◌⊎◌, ℕ, List, [], ◌∷◌, ◌++◌, map, Option, Some, None, refl, sym, ap, ◌∙◌, subst}
-use Rattle.std.specs.Prelude.{Ok, Err}
+use Rattle.std.proofs.Common.{◌≡◌, ℕ, List, [], ◌∷◌, ◌++◌, map, Option, Some, None, refl, sym, ap, ◌∙◌, subst}
 use Rattle.std.specs.Option.{option_map}
 use Rattle.std.specs.List.{All}
 use Rattle.ss_base.specs.declared.object.Object.{Object}
@@ -16,14 +15,13 @@ use Rattle.history_calls.specs.Tokens.{IdleView}
 use Rattle.session.specs.Backup.{HasRunAlone}
 use Rattle.stored_streams.specs.Streams.{Streams}
 use Rattle.stored_streams.specs.OfStreams.{HasContents}
-use Rattle.stored_streams.specs.Reads.{Reads, IsGiven}
+use Rattle.stored_streams.specs.Reads.{Reads}
 use Rattle.stored_streams.specs.Reads.Reads.{recorded, held}
-use Rattle.stored_streams.specs.Collision.{Collide}
 use Rattle.backed_up_streams.specs.Loaded.{ReadsMore}
 use Rattle.backed_up_streams.specs.OfInput.{IsOfInput}
-use Rattle.backed_up_streams.specs.Wrote.{AreWritesOf, WritesMore}
+use Rattle.backed_up_streams.specs.Wrote.{WritesMore, HasWritten}
 use Rattle.backed_up_streams.proofs.BackupLaws.{backup-has}
-use Rattle.backed_up_streams.proofs.GaveLaws.{more_none}
+use Rattle.stored_streams.proofs.ToldLaws.{more_none}
 use Rattle.backed_up_streams.proofs.WroteBackupLaws.{recorded-wrote, held-wrote}
 use Rattle.report.specs.declared.answer.JobAnswer.{JobAnswer}
 use Rattle.job_script.specs.declared.job.JobKind.{JobKind}
@@ -31,19 +29,12 @@ use Rattle.job_script.specs.declared.job.JobKind.TheVariants.{Backup, Restore, D
 use Rattle.job_run.specs.Erasing.{IsErased, AreErased, HasReclaimed, LastReclaim, ReclaimsDone}
 use Rattle.job_run.specs.Erasing.HasReclaimed.{none, more}
 use Rattle.job_run.specs.Erasing.LastReclaim.{few, troubled, unmade}
-use Rattle.store_run.specs.JobRun.{Kept, KeepAnswer, HasDoneJob}
+use Rattle.store_run.specs.JobRun.{HasDoneJob}
 use Rattle.store_run.specs.Opening.{IsLegal}
 use Rattle.run_streams.specs.RunStreams.{HasFile, StoresNothing}
-use Rattle.run_streams.specs.Wrote.{with_kept, with_run}
-use Rattle.run_streams.proofs.ErasedLaws.{keep_erased}
-use Rattle.run_streams.proofs.OpenedLaws.{keep_gave}
+use Rattle.run_streams.specs.Wrote.{with_kept, with_run, RunWrites}
+use Rattle.run_streams.proofs.KeepLaws.{keep_gave, keep_wrote, keep_erased}
 use Rattle.run_streams.proofs.RunLaws.{IsOfStreamsThen, run, idle, files_told, of_input, entries_seen}
-
--- ---- keeping entries
-
-keep_wrote : (before after : ShelfView) (entries : List Entry) (kept : Kept) → KeepAnswer before after entries kept → after.wrote ≡ with_kept before.wrote entries kept
-keep_wrote before after entries (Ok done) keeps = ap (λ (d : ShelfView). d.wrote) keeps.1
-keep_wrote before after entries (Err fault) keeps = ap (λ (d : ShelfView). d.wrote) keeps.1
 
 module _ (kind : JobKind) (before after : Shelves) (sink sink' : SinkView) (status : ℕ) (done : HasDoneJob kind before after sink sink' status) where
   abbrev added : List Entry
@@ -93,14 +84,10 @@ others_wrote kind before after sink sink' status done nothing =
 
 module _ (input name : List ℕ) (streams : Streams) (before after : Shelves) (sink sink' : SinkView) (status : ℕ) (done : HasDoneJob (Backup input name) before after sink sink' status) (file : HasFile input streams before.files (past_of done.store) (past_of done.new)) (entries : All IsEntry (past_of done.new)) (was : IsOfStreamsThen (Backup input name) streams before after sink sink' status done) where
   abbrev WritesBehind : Reads → StateView → Type 0
-  WritesBehind reads view =
-      (writes : List Written) × WritesMore done.opened.depot done.done.depot writes × (done.done.depot.erased ≡ done.opened.depot.erased)
-      × (AreWritesOf (numbers_of done.store.profile) streams (past_of done.store) (past_of view) writes ⊎ Collide (numbers_of done.store.profile) streams (past_of view) (IsGiven (reads ∷ []) (past_of view)))
+  WritesBehind reads view = HasWritten (numbers_of done.store.profile) streams (reads ∷ []) (past_of done.store) (past_of view) done.opened.depot done.done.depot
 
   abbrev pub RunWrote : Reads → Type 0
-  RunWrote reads =
-      (writes : List Written) × (after.depot.wrote ≡ with_run before.depot.wrote writes (map (made done.author) done.points) done.ending.kept) × (after.depot.erased ≡ before.depot.erased)
-      × (AreWritesOf (numbers_of done.store.profile) streams (past_of done.store) (past_of done.new) writes ⊎ Collide (numbers_of done.store.profile) streams (past_of done.new) (IsGiven (reads ∷ []) (past_of done.new)))
+  RunWrote reads = RunWrites (numbers_of done.store.profile) streams (reads ∷ []) (past_of done.store) (past_of done.new) (map (made done.author) done.points) done.ending.kept before.depot after.depot
 
   abbrev the_run : HasRunAlone 8 8 done.author done.opened.files done.done.files input name done.store done.new done.opened.depot done.done.depot done.job.result
   the_run = run input name streams before after sink sink' status done file entries was
@@ -119,12 +106,13 @@ module _ (input name : List ℕ) (streams : Streams) (before after : Shelves) (s
 
   at_end : (reads : Reads) → WritesBehind reads the_run.after.seen → RunWrote reads
   at_end reads is =
-      let (writes, more_writes, none_erased, are) = subst (λ (view : StateView). WritesBehind reads view) the_run.after_is is in (
-        writes,
-        run_wrote (Backup input name) before after sink sink' status done writes more_writes,
-        keep_erased done.done.depot after.depot (map (made done.author) done.points) done.ending.kept done.ending.keeps ∙ none_erased ∙ done.opens.only_reads.erased,
-        are,
-      )
+      let behind = subst (λ (view : StateView). WritesBehind reads view) the_run.after_is is in
+      record {
+        writes = behind.writes;
+        wrote = run_wrote (Backup input name) before after sink sink' status done behind.writes behind.more;
+        erased = keep_erased done.done.depot after.depot (map (made done.author) done.points) done.ending.kept done.ending.keeps ∙ behind.erased ∙ done.opens.only_reads.erased;
+        are = behind.are;
+      }
 
   pub written_held : (objects : Objects) → before.depot.held ≡ Some objects → RunWrote (held objects)
   written_held objects depot_told =

@@ -5,7 +5,7 @@ ghost use Rattle.std.specs.List.{All};
 ghost use Rattle.ss_base.specs.declared.profile.Profile.{Profile};
 ghost use Rattle.ss_base.specs.Profile.{numbers_of};
 ghost use Rattle.journal_entry.specs.Bounds.{IsEntry};
-ghost use Rattle.outside.specs.Shelf.{Objects, Given, Written, bytes_of};
+ghost use Rattle.outside.specs.Shelf.{Objects, Given, bytes_of};
 ghost use Rattle.outside.specs.Views.{SourceView, SinkView, ShelfView, SourceFailed, SinkFailed, ShelfFailed, Takes};
 ghost use Rattle.journal_file.specs.Header.{journal_name};
 ghost use Rattle.journal_file.specs.Journal.{journal_text};
@@ -23,7 +23,6 @@ ghost use Rattle.stored_streams.specs.Collision.{Collide};
 ghost use Rattle.restored_streams.specs.Complete.{NoneFailed, IsAnswered};
 ghost use Rattle.restored_streams.specs.Restored.{HasRestored, LeavesFront, TellsNoDamage, ChunksCollide};
 ghost use Rattle.backed_up_streams.specs.Loaded.{ReadsMore};
-ghost use Rattle.backed_up_streams.specs.Wrote.{AreWritesOf};
 ghost use Rattle.job_script.specs.declared.job.JobKind.{JobKind};
 ghost use Rattle.job_script.specs.declared.job.JobKind.TheVariants.{Backup, Restore, Delete, Reclaim, Stat};
 ghost use Rattle.store_run.specs.EntryLines.{entry_lines};
@@ -39,7 +38,7 @@ ghost use Rattle.run_streams.specs.Erased.{HasErased, OnlyReadsDepot};
 ghost use Rattle.run_streams.specs.Made.{MakesKnown};
 ghost use Rattle.run_streams.specs.RunStreams.{HasInput, StoresNothing};
 ghost use Rattle.run_streams.specs.Unkept.{EntriesFit, KeepsLive};
-ghost use Rattle.run_streams.specs.Wrote.{with_run};
+ghost use Rattle.run_streams.specs.Wrote.{with_run, RunWrites};
 ghost use Rattle.run_streams.specs.WholeStores.{IsWholeStore, KeepsStore, KeepStore};
 
 use store_run::listed_or_refused;
@@ -134,18 +133,14 @@ pub fn written_by_a_run()
         → HasInput (Backup input name) streams before.files (past_of done.store) (past_of done.new)
         → All IsEntry (past_of done.new)
         → IsOfStreams (numbers_of done.store.profile) streams (past_of done.store)
-        → (writes : List Written) × (after.depot.wrote ≡ with_run before.depot.wrote writes (map (made done.author) done.points) done.ending.kept) × (after.depot.erased ≡ before.depot.erased)
-        × (AreWritesOf (numbers_of done.store.profile) streams (past_of done.store) (past_of done.new) writes
-        ⊎ Collide (numbers_of done.store.profile) streams (past_of done.new) (IsGiven (held objects ∷ []) (past_of done.new))) }
+        → RunWrites (numbers_of done.store.profile) streams (held objects ∷ []) (past_of done.store) (past_of done.new) (map (made done.author) done.points) done.ending.kept before.depot after.depot }
     ensures recorded { (input name : List ℕ) (streams : Streams) (before after : Shelves) (sink sink' : SinkView) (status : ℕ)
         → (done : HasDoneJob (Backup input name) before after sink sink' status)
         → HasInput (Backup input name) streams before.files (past_of done.store) (past_of done.new)
         → All IsEntry (past_of done.new)
         → IsOfStreams (numbers_of done.store.profile) streams (past_of done.store)
         → (reads : List Given) × ReadsMore done.opened.depot after.depot reads
-        × (writes : List Written) × (after.depot.wrote ≡ with_run before.depot.wrote writes (map (made done.author) done.points) done.ending.kept) × (after.depot.erased ≡ before.depot.erased)
-        × (AreWritesOf (numbers_of done.store.profile) streams (past_of done.store) (past_of done.new) writes
-        ⊎ Collide (numbers_of done.store.profile) streams (past_of done.new) (IsGiven (recorded reads ∷ []) (past_of done.new))) }
+        × RunWrites (numbers_of done.store.profile) streams (recorded reads ∷ []) (past_of done.store) (past_of done.new) (map (made done.author) done.points) done.ending.kept before.depot after.depot }
     ensures others { (kind : JobKind) (before after : Shelves) (sink sink' : SinkView) (status : ℕ)
         → (done : HasDoneJob kind before after sink sink' status)
         → StoresNothing kind

@@ -1,7 +1,7 @@
 -- What a committed manifest's Commit says of it, however the history goes on.
-use Rattle.std.proofs.Common.{◌≡◌, ℕ, zero, suc, ◌≤◌, true, false, List, [], ◌∷◌, length, Some, refl, sym, ap, ◌∙◌, subst, inl, inr, arith}
+use Rattle.std.proofs.Common.{◌≡◌, ℕ, ◌≤◌, true, false, List, [], ◌∷◌, length, Some, refl, sym, ap, ◌∙◌, subst, inl, inr, arith}
 use mathlib.Core.List.{map}
-use Rattle.std.specs.List.{All, AllByRecursion, Contains}
+use Rattle.std.specs.List.{All, AllByRecursion}
 use Rattle.std.proofs.lemmas.Bool.{false≢true, both_ways, cases_Bool, and_parts, leb-true}
 use Rattle.std.proofs.lemmas.List.{length-map}
 use Rattle.std.proofs.lemmas.List.Elements.{All-head, All-tail}
@@ -12,7 +12,7 @@ use Rattle.ss_base.specs.declared.limits.TheConstants.{MAX_CHUNKS}
 use Rattle.ss_base.specs.declared.name.Name.{Name}
 use Rattle.ss_base.specs.declared.profile.Numbers.{Numbers}
 use Rattle.ss_base.specs.Profile.{AreSound}
-use Rattle.ss_base.proofs.MemberLaws.{In, in_Contains, All-from_in}
+use Rattle.ss_base.proofs.MemberLaws.{in_Contains, All-from_in}
 use Rattle.ss_base.proofs.IdLaws.{same_manifest-self, same_manifest-true}
 use Rattle.chunk_name.specs.Pieces.{piece, name_of_bytes}
 use Rattle.manifest_codec.specs.PiecesPart.{pieces_part}
@@ -32,6 +32,7 @@ use Rattle.store_core.specs.View.{KeptView, kept, kept_by, made}
 use Rattle.stored_streams.specs.Streams.{Streams, manifest_chunks, manifest_pieces}
 use Rattle.stored_streams.specs.Plans.{planned_places, plan_for, next_plan, plans_after, plans_of, text_of}
 use Rattle.stored_streams.specs.OfStreams.{ContentOf, StoredOf, EachEntry}
+use Rattle.stored_streams.proofs.ListLaws.{contains_from_in, in_map}
 use Rattle.stored_streams.proofs.SegmentLaws.{pieces_sized, pieces_named}
 use Rattle.stored_streams.proofs.PlaceLaws.{Each}
 use Rattle.stored_streams.proofs.PlanLaws.{plans_sound, places_of_within, places_newest, places_stay}
@@ -60,16 +61,6 @@ by_recursion_in P (y ∷ ys) all = λ x h. elim h [
   | inl is ↦ subst P is all.0
   | inr later ↦ by_recursion_in P ys all.1 x later
 ]
-
-contains_from_in : {X : Type 0} (x : X) (xs : List X) → In x xs → Contains xs x
-contains_from_in x [] h = absurd h
-contains_from_in x (y ∷ ys) (inl is) = (zero, omega arith, is)
-contains_from_in x (y ∷ ys) (inr later) = let (k, below, is) = contains_from_in x ys later in (suc k, omega (arith, below), is)
-
-in_map : {X Y : Type 0} (f : X → Y) (x : X) (xs : List X) → In x xs → In (f x) (map f xs)
-in_map f x [] h = absurd h
-in_map f x (y ∷ ys) (inl is) = inl (ap f is)
-in_map f x (y ∷ ys) (inr later) = inr (in_map f x ys later)
 
 -- containers of places fit where the list of the containers does
 containers_fit : (places : List Place) (uses : List ContainerId) → AreContainers places uses → AllByRecursion FitsContainer uses → Each (λ (p : Place). FitsContainer p.container) places

@@ -1,3 +1,5 @@
+pub mod ListLaws
+pub mod ToldLaws
 pub mod SegmentLaws
 pub mod PlaceLaws
 pub mod PlanLaws

@@ -2,15 +2,14 @@
 use Rattle.std.proofs.Common.{◌≡◌, ◌≢◌, ◌⊎◌, ℕ, ◌≤◌, true, List, [], ◌∷◌, ◌++◌, refl, sym, ap, ◌∙◌, subst, inl, inr, arith}
 use mathlib.Core.List.{map}
 use Rattle.std.specs.List.{All}
-use Rattle.std.proofs.lemmas.Bool.{false≢true, cases_Bool}
+use Rattle.std.proofs.lemmas.Bool.{false≢true}
 use Rattle.std.proofs.lemmas.List.Elements.{All-tail}
 use Rattle.ss_base.specs.declared.ids.ManifestId.{ManifestId}
-use Rattle.ss_base.specs.declared.name.Name.{Name}
 use Rattle.ss_base.specs.declared.profile.Numbers.{Numbers}
 use Rattle.ss_base.specs.Profile.{AreSound}
-use Rattle.ss_base.specs.Ids.{same_manifest, same_name, has_manifest}
+use Rattle.ss_base.specs.Ids.{same_manifest, has_manifest}
 use Rattle.ss_base.proofs.MemberLaws.{In, in_any}
-use Rattle.ss_base.proofs.IdLaws.{same_manifest-self, same_name-self, same_name-true}
+use Rattle.ss_base.proofs.IdLaws.{same_manifest-self}
 use Rattle.chunk_name.specs.Pieces.{name_of_bytes}
 use Rattle.manifest_codec.specs.Text.{manifest_text}
 use Rattle.manifest_codec.proofs.TextLaws as text
@@ -31,18 +30,9 @@ use Rattle.stored_streams.specs.Plans.{Planned, planned_places, located_of, plan
 use Rattle.stored_streams.specs.OfStreams.{next_of, ContentOf, StoredOf, EndOf, EachEntry, HasContents, HasStored, IsOfStreams, StoresSegment}
 use Rattle.stored_streams.specs.Collision.{Collide}
 use Rattle.stored_streams.specs.Loads.{Loads, loaded_text, loaded_after, loaded_plans, IsLoadOf, AreLoadsOf, LoadedOf, StoresLoaded}
+use Rattle.stored_streams.proofs.ListLaws.{same_bytes}
 use Rattle.stored_streams.proofs.CommittedLaws.{committed_kept, committed_manifest}
 use Rattle.stored_streams.proofs.CollisionLaws.{collide_more}
-
--- bytes are the same or differ
-same_bytes : (a b : List ℕ) → (a ≡ b) ⊎ (a ≢ b)
-same_bytes a b =
-    let one : Name = record { 0 = a } in
-    let other : Name = record { 0 = b } in
-    elim (cases_Bool (same_name one other)) [
-      | inl same ↦ inl (ap (λ (n : Name). n.0) (same_name-true one other same))
-      | inr fails ↦ inr (λ same. false≢true (sym fails ∙ subst (λ (c : List ℕ). same_name one (record { 0 = c }) ≡ true) same (same_name-self one)))
-    ]
 
 -- what is known of the entries before
 pub record IsKnown (n : Numbers) (streams : Streams) (rules : Rules) (past : List Entry) : Type 0 where

@@ -1,7 +1,7 @@
 -- The numbers of a history's objects fit their places in an entry.
-use Rattle.std.proofs.Common.{◌≡◌, ℕ, zero, suc, ◌==◌, ◌+◌, ◌<◌, ◌≤◌, ◌^◌, Bool, true, List, [], ◌∷◌, ◌++◌, Some, None, refl, sym, ap, ◌∙◌, subst, inl, inr, arith}
+use Rattle.std.proofs.Common.{◌≡◌, ℕ, ◌==◌, ◌+◌, ◌<◌, ◌≤◌, ◌^◌, Bool, true, List, [], ◌∷◌, ◌++◌, Some, None, refl, sym, ap, ◌∙◌, subst, inl, inr, arith}
 use mathlib.Core.List.{map}
-use Rattle.std.specs.List.{All, AllByRecursion, Contains}
+use Rattle.std.specs.List.{All, AllByRecursion}
 use Rattle.std.proofs.lemmas.Bool.{false≢true, cases_Bool, and_parts, or_cases, eqb-true}
 use Rattle.std.proofs.lemmas.List.Elements.{All-head, All-tail}
 use Rattle.ss_base.specs.declared.ids.ContainerId.{ContainerId}
@@ -36,6 +36,7 @@ use Rattle.history_laws.proofs.SessionLaws.{has_cases, has_none}
 use Rattle.stored_streams.specs.Streams.{Streams, manifest_chunks}
 use Rattle.stored_streams.specs.Plans.{Planned, located_of, last_plan, end_of, plan_for, next_plan, plans_after, plans_of}
 use Rattle.stored_streams.specs.OfStreams.{StoredOf, EachEntry}
+use Rattle.stored_streams.proofs.ListLaws.{contains_from_in, in_map}
 use Rattle.stored_streams.proofs.PlanLaws.{end_own, end_other}
 
 -- ---- what an entry says
@@ -122,16 +123,6 @@ last_laid : (end : ContainerEnd) (room : ℕ) (c : Chunk) (cs : List Chunk) → 
 unfolding laid end_after
 last_laid end room c [] = record { one = record { chunk = c; place = place_for end room c.piece }; there = inl refl; last = ordinal_last end room c.piece }
 last_laid end room c (d ∷ cs) = let rest = last_laid (after end room c.piece) room d cs in record { one = rest.one; there = inr rest.there; last = rest.last }
-
-in_map : {X Y : Type 0} (f : X → Y) (x : X) (xs : List X) → In x xs → In (f x) (map f xs)
-in_map f x [] there = absurd there
-in_map f x (y ∷ ys) (inl is) = inl (ap f is)
-in_map f x (y ∷ ys) (inr later) = inr (in_map f x ys later)
-
-contains_from_in : {X : Type 0} (x : X) (xs : List X) → In x xs → Contains xs x
-contains_from_in x [] h = absurd h
-contains_from_in x (y ∷ ys) (inl is) = (zero, omega arith, is)
-contains_from_in x (y ∷ ys) (inr later) = let (k, below, is) = contains_from_in x ys later in (suc k, omega (arith, below), is)
 
 few_laid : (cs : List Chunk) (end : ContainerEnd) (room : ℕ) (places : List Place) (uses : List ContainerId) → end.containers ≤ 2 ^ 32 → ((l : Laid) → In l (laid end room cs) → In l.place places) → AreContainers places uses → AllByRecursion FitsContainer uses → (end_after end room cs).containers ≤ 2 ^ 32
 unfolding end_after

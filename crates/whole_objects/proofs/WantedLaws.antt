@@ -1,5 +1,5 @@
 -- What live manifests want of containers: their places lie in containers that are laid out, and that are needed.
-use Rattle.std.proofs.Common.{◌≡◌, ℕ, ◌<◌, true, false, eqb, List, [], ◌∷◌, length, Option, Some, None, refl, sym, ap, ◌∙◌, subst, inl, inr, arith, eqb-true}
+use Rattle.std.proofs.Common.{◌≡◌, ℕ, ◌<◌, true, false, eqb, List, [], ◌∷◌, length, Option, Some, None, refl, sym, ◌∙◌, subst, inl, inr, arith, eqb-true}
 use mathlib.Core.List.{map}
 use Rattle.std.specs.List.{All, Contains}
 use Rattle.std.proofs.lemmas.Bool.{false≢true, cases_Bool, and_parts, and_from, or_right, eq-eqb}
@@ -38,6 +38,7 @@ use Rattle.store_core.specs.View.{made}
 use Rattle.stored_streams.specs.Streams.{Streams, manifest_chunks, manifest_pieces}
 use Rattle.stored_streams.specs.Plans.{Planned, plan_of, last_plan, planned_places, end_of, located_of, plan_for, next_plan, plans_after, plans_of}
 use Rattle.stored_streams.specs.OfStreams.{ContentOf, StoredOf, EachEntry}
+use Rattle.stored_streams.proofs.ListLaws.{in_map}
 use Rattle.stored_streams.proofs.PlaceLaws.{Each}
 use Rattle.stored_streams.proofs.PlanLaws.{places_newest, places_stay, end_own, end_other}
 use Rattle.stored_streams.proofs.CommittedLaws.{committed_kept}
@@ -86,11 +87,6 @@ places_laid id all plans each None is = rw is (λ q h. absurd h)
 places_laid id all plans each (Some p) is =
     let found = find_in (λ (p : Planned). same_manifest id p.id) plans p is in
     rw is ((each p found.0).places)
-
-in_map : {X Y : Type 0} (f : X → Y) (x : X) (xs : List X) → In x xs → In (f x) (map f xs)
-in_map f x [] h = absurd h
-in_map f x (y ∷ ys) (inl is) = inl (ap f is)
-in_map f x (y ∷ ys) (inr later) = inr (in_map f x ys later)
 
 container_listed : (q : Place) (places : List Place) → In q places → Contains (map (λ (p : Place). p.container) places) q.container
 container_listed q places h = Contains-from_in q.container (map (λ (p : Place). p.container) places) (in_map (λ (p : Place). p.container) q places h)

@@ -5,9 +5,7 @@ use Rattle.backed_up_streams.proofs.laws.written_by_a_backup.Goals as goal
 pub returns-clause-recorded : goal.returns-clause-recorded
 returns-clause-recorded c = λ streams objects rules standings champions files input name before depot after depot' result answer told of_input legal entries was.
     let contents = backup-has standings champions files input name before streams objects told depot after depot' result answer of_input was.contents in
-    let (reads, more, written) = recorded-wrote standings champions files input name before streams objects told depot rules after depot' legal entries was contents result answer of_input in
-    let (writes, wrote, none_erased, are) = written in
-    (reads, more, writes, wrote, none_erased, are)
+    recorded-wrote standings champions files input name before streams objects told depot rules after depot' legal entries was contents result answer of_input
 
 pub returns-clause-held : goal.returns-clause-held
 returns-clause-held c = λ streams objects stored rules standings champions files input name before depot after depot' result answer told depot_told of_input legal entries was.

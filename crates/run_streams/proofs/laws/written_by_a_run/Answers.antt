@@ -5,10 +5,7 @@ pub returns-clause-held : goal.returns-clause-held
 returns-clause-held c = λ input name streams objects before after sink sink' status done told input_is entries was. written_held input name streams before after sink sink' status done input_is entries was objects told
 
 pub returns-clause-recorded : goal.returns-clause-recorded
-returns-clause-recorded c = λ input name streams before after sink sink' status done input_is entries was.
-    let (reads, more, written) = written_recorded input name streams before after sink sink' status done input_is entries was in
-    let (writes, wrote, none_erased, are) = written in
-    (reads, more, writes, wrote, none_erased, are)
+returns-clause-recorded c = λ input name streams before after sink sink' status done input_is entries was. written_recorded input name streams before after sink sink' status done input_is entries was
 
 pub returns-clause-others : goal.returns-clause-others
 returns-clause-others c = λ kind before after sink sink' status done nothing. others_wrote kind before after sink sink' status done nothing
