@@ -1,5 +1,6 @@
 -- What a backup chooses and commits is of its input.
 use Rattle.std.proofs.Common.{◌≡◌, ℕ, Bool, true, false, cond, List, [], ◌∷◌, ◌++◌, length, Some, None, Result, Ok, Err, refl, sym, ap, ◌∙◌, subst, append_assoc}
+use Rattle.segment_store.specs.Loads.{Entries}
 use Rattle.std.proofs.lemmas.List.{append-nil}
 use Rattle.ss_base.specs.declared.profile.Numbers.{Numbers}
 use Rattle.ss_base.specs.Profile.{numbers_of}
@@ -23,12 +24,11 @@ use Rattle.depot.specs.declared.fault.BackupFault.{BackupFault}
 use Rattle.history_calls.specs.Tokens.{IdleView, OpenView, ChosenView}
 use Rattle.history_calls.specs.SessionSteps.{HasNotBegun, HasFinished, HasAborted, HasAbortedChosen, HasNotCommitted}
 use Rattle.history_calls.proofs.TurnLaws.{begun_open}
-use Rattle.segment_store.specs.Storing.{Progress}
 use Rattle.session.specs.Split.{HasSplit, HasGivenAll}
 use Rattle.session.specs.Stops.{HasGivenUpChosen, HasGivenUp}
 use Rattle.session.specs.Stops.HasGivenUpChosen.{unstored, uncommitted}
 use Rattle.session.specs.Stops.HasGivenUp.{unsampled, unchosen, behind}
-use Rattle.session.specs.Stores.{no_end}
+use Rattle.session.specs.Stores.{no_end, Progress}
 use Rattle.session.specs.Runs.{HasFinishedStream, HasFailedStream}
 use Rattle.session.specs.Runs.HasStoppedStream.{reading, storing}
 use Rattle.session.specs.Runs.HasFailedStream.{unread, stopped}
@@ -75,11 +75,11 @@ module _ (n : Numbers) (streams : Streams) (older : List Entry) (author session 
           (contents_more n streams author (Finish session containers) (past_of seen) (come.contents whole_is older_has) tt (come.counted ∙ all ∙ sym (ap length whole_is)));
     }
 
-  module _ (whole : List (List (List ℕ))) (count : ℕ) (chunks : List (List ℕ)) (room : ℕ) (chosen : ChosenView) (at : WaitsAt n streams older author session whole standings champions count chosen) (progress : Progress) (after : IdleView) (shelf : ShelfView) (fault : BackupFault) where
+  module _ (whole : List (List (List ℕ))) (count : ℕ) (chunks : List (List ℕ)) (room : ℕ) (chosen : ChosenView) (at : WaitsAt n streams older author session whole standings champions count chosen) (progress : Progress) (after : IdleView) (shelf : ShelfView) (cache : Entries) (fault : BackupFault) where
     chosen_is : chosen ≡ chosen_at author session chosen.seen chosen.choice
     chosen_is = is_chosen_at author session chosen at.same_author at.same_session
 
-    chosen-ends : HasGivenUpChosen alone standings champions chunks room chosen progress after shelf fault → EndsSo whole after
+    chosen-ends : HasGivenUpChosen alone standings champions chunks room chosen progress after shelf cache fault → EndsSo whole after
     chosen-ends (unstored last same not gives) =
         let is = subst (λ (t : ChosenView). HasAbortedChosen alone standings champions t last.end.containers last.texts after) chosen_is gives in
         abort-ends whole count chosen.seen at.come after last.end.containers last.texts (aborted_chosen standings champions author chosen.seen session chosen.choice last.end.containers last.texts after is)
@@ -89,8 +89,8 @@ module _ (n : Numbers) (streams : Streams) (older : List Entry) (author session 
         let ends = subst (λ (t : ChosenView). HasAbortedChosen alone standings champions t last.end.containers last.texts after) back_is gives in
         abort-ends whole count chosen.seen at.come after last.end.containers last.texts (aborted_chosen standings champions author chosen.seen session chosen.choice last.end.containers last.texts after ends)
 
-  module _ (whole front rest : List (List (List ℕ))) (chunks : List (List ℕ)) (whole_is : whole ≡ front ++ chunks ∷ rest) (seen : StateView) (is_n : numbers_of seen.profile ≡ n) (come : HasCome n streams older author session whole (length front) (past_of seen)) (progress : Progress) (after : IdleView) (shelf : ShelfView) (fault : BackupFault) where
-    segment-ends : HasGivenUp alone standings champions chunks (record { caller = open_at author session seen; progress = progress }) after shelf fault → EndsSo whole after
+  module _ (whole front rest : List (List (List ℕ))) (chunks : List (List ℕ)) (whole_is : whole ≡ front ++ chunks ∷ rest) (seen : StateView) (is_n : numbers_of seen.profile ≡ n) (come : HasCome n streams older author session whole (length front) (past_of seen)) (progress : Progress) (after : IdleView) (shelf : ShelfView) (cache : Entries) (fault : BackupFault) where
+    segment-ends : HasGivenUp alone standings champions chunks (record { caller = open_at author session seen; progress = progress }) after shelf cache fault → EndsSo whole after
     segment-ends (unsampled is same gives) =
         abort-ends whole (length front) seen come after progress.end.containers progress.texts (aborted standings champions author seen session progress.end.containers progress.texts after gives)
     segment-ends (unchosen back cause is same refused gives) =
@@ -99,7 +99,7 @@ module _ (n : Numbers) (streams : Streams) (older : List Entry) (author session 
         abort-ends whole (length front) seen come after progress.end.containers progress.texts (aborted standings champions author seen session progress.end.containers progress.texts after ends)
     segment-ends (behind chosen chooses gives) =
         let waits = choice-waits n streams older author session whole standings champions front rest chunks whole_is seen chosen is_n come chooses in
-        chosen-ends whole (length front) chunks (numbers_of seen.profile).room chosen waits progress after shelf fault gives
+        chosen-ends whole (length front) chunks (numbers_of seen.profile).room chosen waits progress after shelf cache fault gives
 
   -- ---- the whole session, of a source that is an input
 
@@ -110,14 +110,14 @@ module _ (n : Numbers) (streams : Streams) (older : List Entry) (author session 
       pub whole_is : segments_of n (bytes_of objects input) ≡ whole
       pub ends : EndsSo whole after
 
-    abbrev at_first : ShelfView → Progress
-    at_first shelf = record { shelf = shelf; end = no_end session; texts = 0 }
+    abbrev at_first : ShelfView → Entries → Progress
+    at_first shelf cache = record { shelf = shelf; end = no_end session; texts = 0; cache = cache }
 
-    pub finished-session : (last : SourceView) (shelf : ShelfView) (after : IdleView) (shelf' : ShelfView) → HasFinishedStream alone standings champions (open_at author session seen) (input_view files input) last shelf after shelf' → Ends after
-    finished-session last shelf after shelf' run =
+    pub finished-session : (last : SourceView) (shelf : ShelfView) (cache : Entries) (after : IdleView) (shelf' : ShelfView) (cache' : Entries) → HasFinishedStream alone standings champions (open_at author session seen) (input_view files input) last shelf cache after shelf' cache' → Ends after
+    finished-session last shelf cache after shelf' cache' run =
         let segments = run.stored.segments in
         let given = subst (λ (m : Numbers). HasGivenAll m (input_view files input) last segments) is_n run.stored.given in
-        let stands = segments-stand n streams older author session segments standings champions segments [] [] seen (at_first shelf) run.last (sym (append-nil segments)) is_n (start segments) run.stored.stored in
+        let stands = segments-stand n streams older author session segments standings champions segments [] [] seen (at_first shelf cache) run.last (sym (append-nil segments)) is_n (start segments) run.stored.stored in
         let caller_is = is_open_at author session run.last.caller stands.same_author stands.same_session in
         let finishes = subst (λ (t : OpenView). HasFinished alone standings champions t run.last.progress.end.containers after) caller_is run.finished in
         record {
@@ -133,14 +133,14 @@ module _ (n : Numbers) (streams : Streams) (older : List Entry) (author session 
     front_of work last segments split =
         input-front n files input objects last told work segments (subst (λ (m : Numbers). HasSplit m (input_view files input) last work segments) is_n split)
 
-    pub failed-session : (last : SourceView) (shelf : ShelfView) (after : IdleView) (shelf' : ShelfView) (fault : BackupFault) → HasFailedStream alone standings champions (open_at author session seen) (input_view files input) last shelf after shelf' fault → Ends after
-    failed-session last shelf after shelf' fault (unread is same_source same_shelf gives) =
+    pub failed-session : (last : SourceView) (shelf : ShelfView) (cache : Entries) (after : IdleView) (shelf' : ShelfView) (cache' : Entries) (fault : BackupFault) → HasFailedStream alone standings champions (open_at author session seen) (input_view files input) last shelf cache after shelf' cache' fault → Ends after
+    failed-session last shelf cache after shelf' cache' fault (unread is same_source same_shelf gives) =
         let whole = segments_of n (bytes_of objects input) in
         record { whole = whole; whole_is = refl; ends = abort-ends whole 0 seen (start whole) after 0 0 (aborted standings champions author seen session 0 0 after gives) }
-    failed-session last shelf after shelf' fault (stopped (reading segments now work end cause is same come ends gives)) =
+    failed-session last shelf cache after shelf' cache' fault (stopped (reading segments now work end cause is same come ends gives)) =
         let front = front_of work now segments come.split in
         let whole = segments ++ front.0 in
-        let stands = segments-stand n streams older author session whole standings champions segments [] front.0 seen (at_first shelf) end refl is_n (start whole) come.stored in
+        let stands = segments-stand n streams older author session whole standings champions segments [] front.0 seen (at_first shelf cache) end refl is_n (start whole) come.stored in
         let caller_is = is_open_at author session end.caller stands.same_author stands.same_session in
         let aborts = subst (λ (t : OpenView). HasAborted alone standings champions t end.progress.end.containers end.progress.texts after) caller_is gives in
         record {
@@ -149,16 +149,16 @@ module _ (n : Numbers) (streams : Streams) (older : List Entry) (author session 
           ends = abort-ends whole (length segments) end.caller.seen stands.come after end.progress.end.containers end.progress.texts
               (aborted standings champions author end.caller.seen session end.progress.end.containers end.progress.texts after aborts);
         }
-    failed-session last shelf after shelf' fault (stopped (storing segments chunks work end split all up)) =
+    failed-session last shelf cache after shelf' cache' fault (stopped (storing segments chunks work end split all up)) =
         let front = front_of work last (segments ++ chunks ∷ []) split in
         let whole = segments ++ chunks ∷ front.0 in
-        let stands = segments-stand n streams older author session whole standings champions segments [] (chunks ∷ front.0) seen (at_first shelf) end refl is_n (start whole) all in
+        let stands = segments-stand n streams older author session whole standings champions segments [] (chunks ∷ front.0) seen (at_first shelf cache) end refl is_n (start whole) all in
         let caller_is = is_open_at author session end.caller stands.same_author stands.same_session in
-        let gives = subst (λ (t : OpenView). HasGivenUp alone standings champions chunks (record { caller = t; progress = end.progress }) after shelf' fault) caller_is up in
+        let gives = subst (λ (t : OpenView). HasGivenUp alone standings champions chunks (record { caller = t; progress = end.progress }) after shelf' cache' fault) caller_is up in
         record {
           whole = whole;
           whole_is = front.1 ∙ append_assoc segments (chunks ∷ []) front.0;
-          ends = segment-ends whole segments front.0 chunks refl end.caller.seen stands.same_numbers stands.come end.progress after shelf' fault gives;
+          ends = segment-ends whole segments front.0 chunks refl end.caller.seen stands.same_numbers stands.come end.progress after shelf' cache' fault gives;
         }
 
 -- ---- a backup
@@ -235,26 +235,26 @@ module _ (standings champions : ℕ) (files : ShelfView) (input name : List ℕ)
     ends-has : (after : IdleView) → IsOfInput streams older (past_of after.seen) (bytes_of objects input) → Ends n streams older author session standings champions files input objects told seen is_n start after → Has after.seen
     ends-has after of_input ends = ends.ends.contents (ap (segments_of n) (ends-stream after of_input ends) ∙ ends.whole_is)
 
-    module _ (last : SourceView) (depot : ShelfView) (after : IdleView) (depot' : ShelfView) where
-      finished-ends : HasFinishedStream alone standings champions started.caller (input_view files input) last depot after depot' → Ends n streams older author session standings champions files input objects told seen is_n start after
+    module _ (last : SourceView) (depot : ShelfView) (cache : Entries) (after : IdleView) (depot' : ShelfView) (cache' : Entries) where
+      finished-ends : HasFinishedStream alone standings champions started.caller (input_view files input) last depot cache after depot' cache' → Ends n streams older author session standings champions files input objects told seen is_n start after
       finished-ends run =
-          finished-session n streams older author session standings champions files input objects told seen is_n start last depot after depot'
-          (subst (λ (t : OpenView). HasFinishedStream alone standings champions t (input_view files input) last depot after depot') caller_is run)
+          finished-session n streams older author session standings champions files input objects told seen is_n start last depot cache after depot' cache'
+          (subst (λ (t : OpenView). HasFinishedStream alone standings champions t (input_view files input) last depot cache after depot' cache') caller_is run)
 
-      failed-ends : (fault : BackupFault) → HasFailedStream alone standings champions started.caller (input_view files input) last depot after depot' fault → Ends n streams older author session standings champions files input objects told seen is_n start after
+      failed-ends : (fault : BackupFault) → HasFailedStream alone standings champions started.caller (input_view files input) last depot cache after depot' cache' fault → Ends n streams older author session standings champions files input objects told seen is_n start after
       failed-ends fault run =
-          failed-session n streams older author session standings champions files input objects told seen is_n start last depot after depot' fault
-          (subst (λ (t : OpenView). HasFailedStream alone standings champions t (input_view files input) last depot after depot' fault) caller_is run)
+          failed-session n streams older author session standings champions files input objects told seen is_n start last depot cache after depot' cache' fault
+          (subst (λ (t : OpenView). HasFailedStream alone standings champions t (input_view files input) last depot cache after depot' cache' fault) caller_is run)
 
-      pub finished-of_input : HasFinishedStream alone standings champions started.caller (input_view files input) last depot after depot' → IsOfInput streams older (past_of after.seen) (bytes_of objects input) → streams session ≡ bytes_of objects input
+      pub finished-of_input : HasFinishedStream alone standings champions started.caller (input_view files input) last depot cache after depot' cache' → IsOfInput streams older (past_of after.seen) (bytes_of objects input) → streams session ≡ bytes_of objects input
       finished-of_input run of_input = ends-stream after of_input (finished-ends run)
 
-      pub failed-of_input : (fault : BackupFault) → HasFailedStream alone standings champions started.caller (input_view files input) last depot after depot' fault → IsOfInput streams older (past_of after.seen) (bytes_of objects input) → streams session ≡ bytes_of objects input
+      pub failed-of_input : (fault : BackupFault) → HasFailedStream alone standings champions started.caller (input_view files input) last depot cache after depot' cache' fault → IsOfInput streams older (past_of after.seen) (bytes_of objects input) → streams session ≡ bytes_of objects input
       failed-of_input fault run of_input = ends-stream after of_input (failed-ends fault run)
 
-  pub backup-has : (depot : ShelfView) (after : IdleView) (depot' : ShelfView) (result : Result ℕ BackupFault) → BackupAnswer alone standings champions files input name before depot after depot' result
+  pub backup-has : (depot : ShelfView) (cache : Entries) (after : IdleView) (depot' : ShelfView) (cache' : Entries) (result : Result ℕ BackupFault) → BackupAnswer alone standings champions files input name before depot cache after depot' cache' result
       → IsOfInput streams older (past_of after.seen) (bytes_of objects input) → Has after.seen
-  backup-has depot after depot' (Ok number) has of_input =
-      ends-has has.started after of_input (finished-ends has.started has.streamed.last depot after depot' has.streamed.finished)
-  backup-has depot after depot' (Err fault) (not_started same has) of_input = not_started-has after fault has
-  backup-has depot after depot' (Err fault) (given_up started streamed) of_input = ends-has started after of_input (failed-ends started streamed.last depot after depot' fault streamed.failed)
+  backup-has depot cache after depot' cache' (Ok number) has of_input =
+      ends-has has.started after of_input (finished-ends has.started has.streamed.last depot cache after depot' cache' has.streamed.finished)
+  backup-has depot cache after depot' cache' (Err fault) (not_started same has) of_input = not_started-has after fault has
+  backup-has depot cache after depot' cache' (Err fault) (given_up started streamed) of_input = ends-has started after of_input (failed-ends started streamed.last depot cache after depot' cache' fault streamed.failed)

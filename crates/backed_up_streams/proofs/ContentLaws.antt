@@ -21,8 +21,7 @@ use Rattle.store_core.specs.declared.values.Stored.{Stored}
 use Rattle.store_core.specs.View.{StateView, past_of, made}
 use Rattle.history_calls.specs.Tokens.{OpenView, ChosenView}
 use Rattle.history_calls.specs.SessionSteps.{HasChosen, HasCommitted}
-use Rattle.segment_store.specs.Storing.{Progress}
-use Rattle.session.specs.Stores.{Reached, HasStored, HasStoredAll}
+use Rattle.session.specs.Stores.{Reached, HasStored, HasStoredAll, Progress}
 use Rattle.stored_streams.specs.Streams.{Streams, manifest_pieces, segment_count}
 use Rattle.stored_streams.specs.OfStreams.{ContentOf, IsComplete, ChoosesSegment, HoldsSegment, HasContents}
 use Rattle.backed_up_streams.proofs.AloneLaws.{alone, open_at, is_open_at, is_chosen_at, chose, committed}

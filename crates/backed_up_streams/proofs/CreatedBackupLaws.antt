@@ -1,5 +1,6 @@
 -- A backup makes no object that its history does not know.
 use Rattle.std.proofs.Common.{◌≡◌, ℕ, true, List, [], ◌∷◌, Some, Result, Ok, Err, refl, sym, ap, ◌∙◌, subst, inl}
+use Rattle.segment_store.specs.Loads.{Entries}
 use Rattle.ss_base.specs.declared.profile.Numbers.{Numbers}
 use Rattle.ss_base.specs.Profile.{numbers_of}
 use Rattle.container_file.specs.declared.container_end.ContainerEnd.{ContainerEnd}
@@ -69,25 +70,25 @@ module _ (standings champions : ℕ) (files : ShelfView) (input name : List ℕ)
     unfolding tells
     run-creates after depot' ended legal = ended-creates n streams older before.author session stored rules (past_of after.seen) depot' ended legal
 
-  pub backup-creates : (after : IdleView) (depot' : ShelfView) (result : Result ℕ BackupFault) → BackupAnswer alone standings champions files input name before depot after depot' result
+  pub backup-creates : (after : IdleView) (depot' : ShelfView) (cache' : Entries) (result : Result ℕ BackupFault) → BackupAnswer alone standings champions files input name before depot [] after depot' cache' result
       → IsOfInput streams (past_of before.seen) (past_of after.seen) (bytes_of objects input) → is_legal rules (past_of after.seen) ≡ true
       → CreatesKnown (past_of after.seen) stored depot'
-  backup-creates after depot' (Ok number) has of_input legal =
+  backup-creates after depot' cache' (Ok number) has of_input legal =
       let started = has.started in
       let streamed = has.streamed in
-      let stream_is = finished-of_input standings champions files input name before streams objects told started streamed.last depot after depot' streamed.finished of_input in
+      let stream_is = finished-of_input standings champions files input name before streams objects told started streamed.last depot [] after depot' cache' streamed.finished of_input in
       run-creates started after depot'
-      (finished-run standings champions files input name before streams objects told started (ToldIs started) (AnyIs started) (tells started) depot (at_first started) stream_is streamed.last after depot' streamed.finished) legal
-  backup-creates after depot' (Err fault) (not_started same has) of_input legal =
-      subst (λ (d : ShelfView). CreatesKnown (past_of after.seen) stored d) (sym same) (record { now = stored; held_is = depot_told; each = λ q bytes found. inl (bytes, found) })
-  backup-creates after depot' (Err fault) (given_up started streamed) of_input legal =
-      let stream_is = failed-of_input standings champions files input name before streams objects told started streamed.last depot after depot' fault streamed.failed of_input in
+      (finished-run standings champions files input name before streams objects told started (ToldIs started) (AnyIs started) (tells started) depot (at_first started) stream_is streamed.last after depot' cache' streamed.finished) legal
+  backup-creates after depot' cache' (Err fault) (not_started same has) of_input legal =
+      subst (λ (d : ShelfView). CreatesKnown (past_of after.seen) stored d) (sym same.0) (record { now = stored; held_is = depot_told; each = λ q bytes found. inl (bytes, found) })
+  backup-creates after depot' cache' (Err fault) (given_up started streamed) of_input legal =
+      let stream_is = failed-of_input standings champions files input name before streams objects told started streamed.last depot [] after depot' cache' fault streamed.failed of_input in
       run-creates started after depot'
-      (failed-run standings champions files input name before streams objects told started (ToldIs started) (AnyIs started) (tells started) depot (at_first started) stream_is streamed.last after depot' fault streamed.failed) legal
+      (failed-run standings champions files input name before streams objects told started (ToldIs started) (AnyIs started) (tells started) depot (at_first started) stream_is streamed.last after depot' cache' fault streamed.failed) legal
 
 -- whatever the other streams are
-pub created-known : (standings champions : ℕ) (files : ShelfView) (input name : List ℕ) (before : IdleView) (objects stored : Objects) (rules : Rules) (depot : ShelfView) (after : IdleView) (depot' : ShelfView) (result : Result ℕ BackupFault)
-    → BackupAnswer alone standings champions files input name before depot after depot' result
+pub created-known : (standings champions : ℕ) (files : ShelfView) (input name : List ℕ) (before : IdleView) (objects stored : Objects) (rules : Rules) (depot : ShelfView) (after : IdleView) (depot' : ShelfView) (cache' : Entries) (result : Result ℕ BackupFault)
+    → BackupAnswer alone standings champions files input name before depot [] after depot' cache' result
     → files.held ≡ Some objects → depot.held ≡ Some stored → is_legal rules (past_of after.seen) ≡ true → CreatesKnown (past_of after.seen) stored depot'
-created-known standings champions files input name before objects stored rules depot after depot' result has told depot_told legal =
-    backup-creates standings champions files input name before (λ session. bytes_of objects input) objects told depot stored depot_told rules after depot' result has (λ session new begun. refl) legal
+created-known standings champions files input name before objects stored rules depot after depot' cache' result has told depot_told legal =
+    backup-creates standings champions files input name before (λ session. bytes_of objects input) objects told depot stored depot_told rules after depot' cache' result has (λ session new begun. refl) legal

@@ -1,5 +1,6 @@
 -- A backup over a whole depot meets no damage.
 use Rattle.std.proofs.Common.{◌≡◌, ℕ, true, List, [], ◌∷◌, ◌++◌, length, Some, Err, refl, sym, ap, ◌∙◌, subst, inl, append_assoc}
+use Rattle.manifest_cache.specs.Cached.{held}
 use Rattle.std.specs.List.{All}
 use Rattle.ss_base.specs.declared.ids.ManifestId.{ManifestId}
 use Rattle.ss_base.specs.declared.profile.Numbers.{Numbers}
@@ -35,8 +36,7 @@ use Rattle.depot.specs.declared.fault.LoadFault.TheVariants.{Shelf, Damaged, Unl
 use Rattle.depot.specs.Loading.{IsLike, LoadAnswer}
 use Rattle.history_calls.specs.Tokens.{IdleView, ChosenView}
 use Rattle.history_calls.specs.SessionSteps.{HasAbortedChosen}
-use Rattle.segment_store.specs.Loads.{after_loads, IsStopped}
-use Rattle.segment_store.specs.Storing.{Progress}
+use Rattle.segment_store.specs.Loads.{after_loads, IsStopped, Entries}
 use Rattle.session.specs.Backup.{input_view, HasStarted, HasNotStarted, BackupAnswer}
 use Rattle.session.specs.Backup.HasNotStarted.{unasked, absent, unbegun}
 use Rattle.session.specs.Backup.HasNotBackedUp.{not_started, given_up}
@@ -48,7 +48,7 @@ use Rattle.session.specs.Stops.{NotStoredFor, HasGivenUpChosen, HasGivenUp}
 use Rattle.session.specs.Stops.NotStoredFor.{not_tried, not_loaded, not_stored}
 use Rattle.session.specs.Stops.HasGivenUpChosen.{unstored, uncommitted}
 use Rattle.session.specs.Stops.HasGivenUp.{unsampled, unchosen, behind}
-use Rattle.session.specs.Stores.{Reached, at_start}
+use Rattle.session.specs.Stores.{Reached, at_start, Progress}
 use Rattle.stored_streams.specs.Streams.{Streams, manifest_pieces}
 use Rattle.stored_streams.specs.Plans.{Planned, planned_places, plans_of, text_of}
 use Rattle.stored_streams.specs.OfStreams.{IsOfStreams}
@@ -147,8 +147,8 @@ module _ (n : Numbers) (sound : AreSound n) (rules : Rules) (streams : Streams) 
     load_tells shelf after view Memory live kept_is held answer = tt
 
     -- and of a list of them
-    stopped_tells : (shelf after : ShelfView) (ids : List ManifestId) (why : LoadFault) → ((id : ManifestId) → In id ids → is_live id past ≡ true) → shelf.held ≡ Some now → IsStopped shelf after (all_kept ids past) why → TellsNoDamage (of_load why)
-    stopped_tells shelf after ids why live held stop =
+    stopped_tells : (cache cache' : Entries) (shelf after : ShelfView) (ids : List ManifestId) (why : LoadFault) → ((id : ManifestId) → In id ids → is_live id past ≡ true) → shelf.held ≡ Some now → IsStopped cache cache' shelf after (all_kept ids past) why → TellsNoDamage (of_load why)
+    stopped_tells cache cache' shelf after ids why live is_held stop =
         let view = stop.kept in
         let there : In view (all_kept ids past) = subst (λ (ks : List KeptView). In view ks) (sym stop.kepts_are) (in_append_right view stop.done (view ∷ stop.rest) (inl refl)) in
         let (id, listed, is) = filter_map_in (λ (i : ManifestId). kept i past) view ids there in
@@ -156,8 +156,8 @@ module _ (n : Numbers) (sound : AreSound n) (rules : Rules) (streams : Streams) 
         let both : Some view ≡ Some own.view = sym is ∙ own.kept_is in
         let same : view ≡ own.view = cc in
         let id_is : view.id ≡ id = ap (λ (v : KeptView). v.id) same ∙ own.same in
-        load_tells (after_loads shelf stop.done stop.manifests) after view why (subst (λ (i : ManifestId). is_live i past ≡ true) (sym id_is) (live id listed)) (ap (λ (i : ManifestId). kept i past) id_is ∙ is)
-        (loads_held shelf stop.done stop.manifests ∙ held) stop.failed
+        load_tells (after_loads (held cache) shelf stop.done stop.manifests) after view why (subst (λ (i : ManifestId). is_live i past ≡ true) (sym id_is) (live id listed)) (ap (λ (i : ManifestId). kept i past) id_is ∙ is)
+        (loads_held (held cache) shelf stop.done stop.manifests ∙ is_held) stop.failed
 
   -- ---- a segment in which a session is given up
 
@@ -180,26 +180,26 @@ module _ (n : Numbers) (sound : AreSound n) (rules : Rules) (streams : Streams) 
           let told = at.so.told in
           let kepts = at.kept ∙ ap (all_kept at.ids) at.so.past_is in
           subst TellsNoDamage (sym is)
-          (stopped_tells then_past at.so.plans told.now allowed_then (told.facts allowed_then) progress.shelf last.shelf at.ids cause (champions_live allowed) told.held_is
-          (subst (λ (ks : List KeptView). IsStopped progress.shelf last.shelf ks cause) kepts failed))
-      unstored_tells last fault allowed (not_stored manifests cause is loaded failed) = subst TellsNoDamage (sym is) (depot_tells cause)
+          (stopped_tells then_past at.so.plans told.now allowed_then (told.facts allowed_then) progress.cache last.cache progress.shelf last.shelf at.ids cause (champions_live allowed) told.held_is
+          (subst (λ (ks : List KeptView). IsStopped progress.cache last.cache progress.shelf last.shelf ks cause) kepts failed))
+      unstored_tells last fault allowed (not_stored manifests cause is loaded caches failed) = subst TellsNoDamage (sym is) (depot_tells cause)
 
-      chosen_tells : (after : IdleView) (shelf : ShelfView) (fault : BackupFault) → Allowed (past_of after.seen) → HasGivenUpChosen alone standings champions chunks room chosen progress after shelf fault → TellsNoDamage fault
-      chosen_tells after shelf fault allowed (unstored last same not gives) =
+      chosen_tells : (after : IdleView) (shelf : ShelfView) (cache : Entries) (fault : BackupFault) → Allowed (past_of after.seen) → HasGivenUpChosen alone standings champions chunks room chosen progress after shelf cache fault → TellsNoDamage fault
+      chosen_tells after shelf cache fault allowed (unstored last same not gives) =
           let caller_is = is_chosen_at author session chosen at.same_author at.same_session in
           let is = subst (λ (t : ChosenView). HasAbortedChosen alone standings champions t last.end.containers last.texts after) caller_is gives in
           let added = aborted_chosen standings champions author chosen.seen session chosen.choice last.end.containers last.texts after is in
           unstored_tells last fault
           (allowed_before n sound rules streams older author session first (made author (Abort session last.end.containers last.texts)) (past_of chosen.seen) (subst Allowed added.past allowed)) not
-      chosen_tells after shelf fault allowed (uncommitted last stored written back cause same is stores refused gives) = subst TellsNoDamage (sym is) (point_tells cause)
+      chosen_tells after shelf cache fault allowed (uncommitted last stored written back cause same is stores refused gives) = subst TellsNoDamage (sym is) (point_tells cause)
 
     segment_tells : (front rest : List (List (List ℕ))) (chunks : List (List ℕ)) (are : segments_of n (streams session) ≡ front ++ chunks ∷ rest) (before : Reached) (at : StandsSo n streams older author session Told Allowed telling standings champions (length front) before)
-        (after : IdleView) (shelf : ShelfView) (fault : BackupFault) → Allowed (past_of after.seen) → HasGivenUp alone standings champions chunks before after shelf fault → TellsNoDamage fault
-    segment_tells front rest chunks are before at after shelf fault allowed (unsampled is same gives) = subst TellsNoDamage (sym is) tt
-    segment_tells front rest chunks are before at after shelf fault allowed (unchosen back cause is same refused gives) = subst TellsNoDamage (sym is) (point_tells cause)
-    segment_tells front rest chunks are before at after shelf fault allowed (behind chosen chooses gives) =
+        (after : IdleView) (shelf : ShelfView) (cache : Entries) (fault : BackupFault) → Allowed (past_of after.seen) → HasGivenUp alone standings champions chunks before after shelf cache fault → TellsNoDamage fault
+    segment_tells front rest chunks are before at after shelf cache fault allowed (unsampled is same gives) = subst TellsNoDamage (sym is) tt
+    segment_tells front rest chunks are before at after shelf cache fault allowed (unchosen back cause is same refused gives) = subst TellsNoDamage (sym is) (point_tells cause)
+    segment_tells front rest chunks are before at after shelf cache fault allowed (behind chosen chooses gives) =
         let waits = waits_so n streams older author session Told Allowed telling standings champions front rest chunks are before at chosen chooses in
-        chosen_tells (length front) chunks (numbers_of before.caller.seen.profile).room chosen before.progress waits after shelf fault allowed gives
+        chosen_tells (length front) chunks (numbers_of before.caller.seen.profile).room chosen before.progress waits after shelf cache fault allowed gives
 
 -- ---- a backup
 
@@ -227,21 +227,21 @@ module _ (standings champions : ℕ) (files : ShelfView) (input name : List ℕ)
     first_told : ToldOf [] (made before.author (Begin name (Some the_session)) ∷ []) (plans_of numbers streams the_past) depot
     first_told = at_first standings champions files input name before streams objects told depot stored depot_told rules was was_whole started
 
-    stream_tells : (stream_is : streams the_session ≡ bytes_of objects input) (last : SourceView) (after : IdleView) (depot' : ShelfView) (fault : BackupFault) → AllowedOf (past_of after.seen)
-        → HasFailedStream alone standings champions started.caller (input_view files input) last depot after depot' fault → TellsNoDamage fault
-    stream_tells stream_is last after depot' fault allowed (unread is same_source same_shelf gives) = subst TellsNoDamage (sym is) tt
-    stream_tells stream_is last after depot' fault allowed (stopped (reading segments now work end cause is same come ends gives)) = subst TellsNoDamage (sym is) (next_tells cause)
-    stream_tells stream_is last after depot' fault allowed (stopped (storing segments chunks work end split all up)) =
+    stream_tells : (stream_is : streams the_session ≡ bytes_of objects input) (last : SourceView) (after : IdleView) (depot' : ShelfView) (cache' : Entries) (fault : BackupFault) → AllowedOf (past_of after.seen)
+        → HasFailedStream alone standings champions started.caller (input_view files input) last depot [] after depot' cache' fault → TellsNoDamage fault
+    stream_tells stream_is last after depot' cache' fault allowed (unread is same_source same_shelf gives) = subst TellsNoDamage (sym is) tt
+    stream_tells stream_is last after depot' cache' fault allowed (stopped (reading segments now work end cause is same come ends gives)) = subst TellsNoDamage (sym is) (next_tells cause)
+    stream_tells stream_is last after depot' cache' fault allowed (stopped (storing segments chunks work end split all up)) =
         let front = front_of standings champions files input name before streams objects told started ToldOf AllowedOf tells_of depot first_told stream_is work last (segments ++ chunks ∷ []) split in
         let are = front.1 ∙ append_assoc segments (chunks ∷ []) front.0 in
         let begun = start standings champions files input name before streams objects told started ToldOf AllowedOf tells_of depot first_told stream_is in
-        let stands = segments-so numbers streams the_past before.author the_session ToldOf AllowedOf tells_of standings champions segments [] (chunks ∷ front.0) (at_start started.caller depot) end are begun all in
-        segment_tells numbers (AreSound-numbers_of before.seen.profile) rules streams the_past before.author the_session stored tells_of standings champions segments front.0 chunks are end stands after depot' fault allowed up
+        let stands = segments-so numbers streams the_past before.author the_session ToldOf AllowedOf tells_of standings champions segments [] (chunks ∷ front.0) (at_start started.caller depot []) end are begun all in
+        segment_tells numbers (AreSound-numbers_of before.seen.profile) rules streams the_past before.author the_session stored tells_of standings champions segments front.0 chunks are end stands after depot' cache' fault allowed up
 
-  pub no_damage : (after : IdleView) (depot' : ShelfView) (fault : BackupFault) → BackupAnswer alone standings champions files input name before depot after depot' (Err fault)
+  pub no_damage : (after : IdleView) (depot' : ShelfView) (cache' : Entries) (fault : BackupFault) → BackupAnswer alone standings champions files input name before depot [] after depot' cache' (Err fault)
       → IsOfInput streams the_past (past_of after.seen) (bytes_of objects input) → is_legal rules (past_of after.seen) ≡ true → All IsEntry (past_of after.seen) → TellsNoDamage fault
-  no_damage after depot' fault (not_started same has) of_input legal entries = unstarted_tells standings champions files input name before after fault has
-  no_damage after depot' fault (given_up started streamed) of_input legal entries =
-      let stream_is = failed-of_input standings champions files input name before streams objects told started streamed.last depot after depot' fault streamed.failed of_input in
-      let contents = backup-has standings champions files input name before streams objects told depot after depot' (Err fault) (given_up started streamed) of_input was.contents in
-      stream_tells started stream_is streamed.last after depot' fault (record { legal = legal; entries = entries; contents = contents }) streamed.failed
+  no_damage after depot' cache' fault (not_started same has) of_input legal entries = unstarted_tells standings champions files input name before after fault has
+  no_damage after depot' cache' fault (given_up started streamed) of_input legal entries =
+      let stream_is = failed-of_input standings champions files input name before streams objects told started streamed.last depot [] after depot' cache' fault streamed.failed of_input in
+      let contents = backup-has standings champions files input name before streams objects told depot [] after depot' cache' (Err fault) (given_up started streamed) of_input was.contents in
+      stream_tells started stream_is streamed.last after depot' cache' fault (record { legal = legal; entries = entries; contents = contents }) streamed.failed

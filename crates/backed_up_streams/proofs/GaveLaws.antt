@@ -1,5 +1,5 @@
 -- What a depot's shelf tells of its reads, over the calls of a session.
-use Rattle.std.proofs.Common.{◌≡◌, ℕ, ◌*◌, List, [], ◌∷◌, Option, Err, refl, ap, ◌∙◌, inl, inr}
+use Rattle.std.proofs.Common.{◌≡◌, ℕ, ◌*◌, List, [], ◌∷◌, if◌then◌else◌, is_some, Option, None, Some, Err, refl, ap, ◌∙◌, inl, inr}
 use Rattle.std.proofs.lemmas.Bool.{cases_Bool}
 use Rattle.ss_base.specs.declared.ids.ManifestId.{ManifestId}
 use Rattle.ss_base.specs.declared.object.Object.TheVariants.{Manifest as ManifestObject}
@@ -20,18 +20,22 @@ use Rattle.depot.specs.Loading.{LoadAnswer}
 use Rattle.depot.specs.Storing.{PutLeaves, after_put, after_puts}
 use Rattle.depot.specs.Storing.{IsStopped as IsPutStopped}
 use Rattle.stored_streams.proofs.ToldLaws.{GaveMore, gave_same, gave_one, gave_then}
-use Rattle.segment_store.specs.Loads.{after_load, after_loads, IsStopped}
+use Rattle.manifest_cache.specs.Cached.{held}
+use Rattle.segment_store.specs.Loads.{Entries, Holding, after_load, after_turn, after_loads, IsStopped}
 use Rattle.segment_store.specs.Stored.{after_segment}
 
 -- ---- loads
 
-pub loads_gave : (shelf : ShelfView) (kepts : List KeptView) (manifests : List Manifest) → GaveMore shelf (after_loads shelf kepts manifests)
-loads_gave shelf [] manifests = gave_same shelf shelf refl
-loads_gave shelf (kept ∷ kepts) [] = gave_same shelf shelf refl
-loads_gave shelf (kept ∷ kepts) (manifest ∷ manifests) =
-    gave_then shelf (after_load shelf kept manifest) (after_loads (after_load shelf kept manifest) kepts manifests)
-    (record { reads = read_of (object_text (ManifestObject kept.id)) 0 (48 * kept.chunks) (manifest_text manifest.pieces.items manifest.places.items) ∷ []; gave = refl })
-    (loads_gave (after_load shelf kept manifest) kepts manifests)
+turn_gave : (o : Option Located) (shelf : ShelfView) (kept : KeptView) (manifest : Manifest) → GaveMore shelf (if is_some o then shelf else after_load shelf kept manifest)
+turn_gave None shelf kept manifest = record { reads = read_of (object_text (ManifestObject kept.id)) 0 (48 * kept.chunks) (manifest_text manifest.pieces.items manifest.places.items) ∷ []; gave = refl }
+turn_gave (Some one) shelf kept manifest = gave_same shelf shelf refl
+
+pub loads_gave : (holds : Holding) (shelf : ShelfView) (kepts : List KeptView) (manifests : List Manifest) → GaveMore shelf (after_loads holds shelf kepts manifests)
+loads_gave holds shelf [] manifests = gave_same shelf shelf refl
+loads_gave holds shelf (kept ∷ kepts) [] = gave_same shelf shelf refl
+loads_gave holds shelf (kept ∷ kepts) (manifest ∷ manifests) =
+    let turn = after_turn holds shelf kept manifest in
+    gave_then shelf turn (after_loads holds turn kepts manifests) (turn_gave (holds kept) shelf kept manifest) (loads_gave holds turn kepts manifests)
 
 read_gave : (before after : ShelfView) (name : List ℕ) (at max : ℕ) (bytes : List ℕ) → HasRead before after name at max bytes → GaveMore before after
 read_gave before after name at max bytes has = gave_one before after (read_of name at max bytes) (ap (λ (s : ShelfView). s.gave) has.call)
@@ -44,10 +48,10 @@ failed_load-gave before after kept Memory (inl (inl same)) = gave_same before af
 failed_load-gave before after kept Memory (inl (inr same)) = gave_same before after (ap (λ (s : ShelfView). s.gave) same)
 failed_load-gave before after kept Memory (inr (given, has)) = read_gave before after (object_text (ManifestObject kept.id)) 0 (48 * kept.chunks) given has
 
-pub stopped_loads-gave : (before after : ShelfView) (kepts : List KeptView) (fault : LoadFault) → IsStopped before after kepts fault → GaveMore before after
-stopped_loads-gave before after kepts fault is =
-    let between = after_loads before is.done is.manifests in
-    gave_then before between after (loads_gave before is.done is.manifests) (failed_load-gave between after is.kept fault is.failed)
+pub stopped_loads-gave : (cache cache' : Entries) (before after : ShelfView) (kepts : List KeptView) (fault : LoadFault) → IsStopped cache cache' before after kepts fault → GaveMore before after
+stopped_loads-gave cache cache' before after kepts fault is =
+    let between = after_loads (held cache) before is.done is.manifests in
+    gave_then before between after (loads_gave (held cache) before is.done is.manifests) (failed_load-gave between after is.kept fault is.failed)
 
 -- ---- puts and creates, which read nothing
 

@@ -1,5 +1,6 @@
 -- What a backup stores against what its depot held at first.
 use Rattle.std.proofs.Common.{◌≡◌, ℕ, true, false, List, [], ◌∷◌, ◌++◌, Some, Result, Ok, Err, refl, sym, ◌∙◌, subst, inl, inr}
+use Rattle.segment_store.specs.Loads.{Entries}
 use Rattle.std.specs.List.{All}
 use Rattle.std.proofs.lemmas.Bool.{false≢true}
 use Rattle.std.proofs.lemmas.List.Elements.{All-tail}
@@ -110,20 +111,20 @@ module _ (standings champions : ℕ) (files : ShelfView) (input name : List ℕ)
     run-loaded : (after : IdleView) (depot' : ShelfView) → HasEnded n streams older before.author session (HeldSo n streams older before.author session stored) (All IsEntry) (is_holding n streams older before.author session stored) (past_of after.seen) depot' → All IsEntry (past_of after.seen) → Loaded after
     run-loaded after depot' is entries = ended-held n streams older before.author session stored (past_of after.seen) depot' is entries
 
-  pub backup-held : (after : IdleView) (depot' : ShelfView) (result : Result ℕ BackupFault) → BackupAnswer alone standings champions files input name before depot after depot' result
+  pub backup-held : (after : IdleView) (depot' : ShelfView) (cache' : Entries) (result : Result ℕ BackupFault) → BackupAnswer alone standings champions files input name before depot [] after depot' cache' result
       → IsOfInput streams (past_of before.seen) (past_of after.seen) (bytes_of objects input) → All IsEntry (past_of after.seen) → Loaded after
-  backup-held after depot' (Ok number) has of_input entries =
+  backup-held after depot' cache' (Ok number) has of_input entries =
       let started = has.started in
       let streamed = has.streamed in
-      let stream_is = finished-of_input standings champions files input name before streams objects told started streamed.last depot after depot' streamed.finished of_input in
+      let stream_is = finished-of_input standings champions files input name before streams objects told started streamed.last depot [] after depot' cache' streamed.finished of_input in
       run-loaded started after depot'
       (finished-run standings champions files input name before streams objects told started (HeldSo (numbers_of before.seen.profile) streams (past_of before.seen) before.author started.caller.session stored) (All IsEntry)
-      (is_holding (numbers_of before.seen.profile) streams (past_of before.seen) before.author started.caller.session stored) depot (at_first started) stream_is streamed.last after depot' streamed.finished)
+      (is_holding (numbers_of before.seen.profile) streams (past_of before.seen) before.author started.caller.session stored) depot (at_first started) stream_is streamed.last after depot' cache' streamed.finished)
       entries
-  backup-held after depot' (Err fault) (not_started same has) of_input entries = unstarted-loaded standings champions files input name before streams (held stored ∷ []) after fault has
-  backup-held after depot' (Err fault) (given_up started streamed) of_input entries =
-      let stream_is = failed-of_input standings champions files input name before streams objects told started streamed.last depot after depot' fault streamed.failed of_input in
+  backup-held after depot' cache' (Err fault) (not_started same has) of_input entries = unstarted-loaded standings champions files input name before streams (held stored ∷ []) after fault has
+  backup-held after depot' cache' (Err fault) (given_up started streamed) of_input entries =
+      let stream_is = failed-of_input standings champions files input name before streams objects told started streamed.last depot [] after depot' cache' fault streamed.failed of_input in
       run-loaded started after depot'
       (failed-run standings champions files input name before streams objects told started (HeldSo (numbers_of before.seen.profile) streams (past_of before.seen) before.author started.caller.session stored) (All IsEntry)
-      (is_holding (numbers_of before.seen.profile) streams (past_of before.seen) before.author started.caller.session stored) depot (at_first started) stream_is streamed.last after depot' fault streamed.failed)
+      (is_holding (numbers_of before.seen.profile) streams (past_of before.seen) before.author started.caller.session stored) depot (at_first started) stream_is streamed.last after depot' cache' fault streamed.failed)
       entries

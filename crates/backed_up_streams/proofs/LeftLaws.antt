@@ -1,5 +1,5 @@
 -- What the end of a session leaves of its depot.
-use Rattle.std.proofs.Common.{◌≡◌, ℕ, ◌+◌, ◌*◌, ◌≤◌, List, [], ◌∷◌, Err, refl, ap, ◌∙◌, inl, inr}
+use Rattle.std.proofs.Common.{◌≡◌, ℕ, ◌+◌, ◌*◌, ◌≤◌, List, [], ◌∷◌, Err, refl, ap, ◌∙◌, inl, inr, if◌then◌else◌, is_some, Option, None, Some}
 use Rattle.ss_base.specs.declared.ids.ManifestId.{ManifestId}
 use Rattle.ss_base.specs.declared.object.Object.TheVariants.{Manifest as ManifestObject}
 use Rattle.ss_base.specs.declared.profile.Numbers.{Numbers}
@@ -19,16 +19,31 @@ use Rattle.depot.specs.Calls.{HasRead, HasFailed}
 use Rattle.depot.specs.Loading.{LoadAnswer}
 use Rattle.depot.specs.Storing.{after_puts}
 use Rattle.depot.specs.Storing.{IsStopped as IsPutStopped}
-use Rattle.segment_store.specs.Loads.{after_load, after_loads, IsStopped}
+use Rattle.manifest_cache.specs.Cached.{held}
+use Rattle.segment_store.specs.Loads.{Entries, Holding, after_load, after_turn, after_loads, IsStopped}
 use Rattle.segment_store.specs.Stored.{text_against, after_segment}
 use Rattle.stored_streams.specs.Plans.{Planned, end_of}
 
 -- ---- loads change no object
 
-pub loads_held : (shelf : ShelfView) (kepts : List KeptView) (manifests : List Manifest) → (after_loads shelf kepts manifests).held ≡ shelf.held
-loads_held shelf [] manifests = refl
-loads_held shelf (kept ∷ kepts) [] = refl
-loads_held shelf (kept ∷ kepts) (manifest ∷ manifests) = loads_held (after_load shelf kept manifest) kepts manifests
+-- nor do they write or erase
+pub record IsUnwritten (before after : ShelfView) : Type 0 where
+  pub wrote : after.wrote ≡ before.wrote
+  pub erased : after.erased ≡ before.erased
+
+-- one of them, which was made or not
+record IsQuiet (before after : ShelfView) : Type 0 where
+  same : after.held ≡ before.held
+  unwritten : IsUnwritten before after
+
+turn_quiet : (o : Option Located) (shelf : ShelfView) (kept : KeptView) (manifest : Manifest) → IsQuiet shelf (if is_some o then shelf else after_load shelf kept manifest)
+turn_quiet None shelf kept manifest = record { same = refl; unwritten = record { wrote = refl; erased = refl } }
+turn_quiet (Some one) shelf kept manifest = record { same = refl; unwritten = record { wrote = refl; erased = refl } }
+
+pub loads_held : (holds : Holding) (shelf : ShelfView) (kepts : List KeptView) (manifests : List Manifest) → (after_loads holds shelf kepts manifests).held ≡ shelf.held
+loads_held holds shelf [] manifests = refl
+loads_held holds shelf (kept ∷ kepts) [] = refl
+loads_held holds shelf (kept ∷ kepts) (manifest ∷ manifests) = loads_held holds (after_turn holds shelf kept manifest) kepts manifests ∙ (turn_quiet (holds kept) shelf kept manifest).same
 
 failed_load-held : (before after : ShelfView) (kept : KeptView) (fault : LoadFault) → LoadAnswer before after kept (Err fault) → after.held ≡ before.held
 failed_load-held before after kept Shelf has = ap (λ (s : ShelfView). s.held) has.call
@@ -38,15 +53,9 @@ failed_load-held before after kept Memory (inl (inl same)) = ap (λ (s : ShelfVi
 failed_load-held before after kept Memory (inl (inr same)) = ap (λ (s : ShelfView). s.held) same
 failed_load-held before after kept Memory (inr (given, has)) = ap (λ (s : ShelfView). s.held) has.call
 
-pub stopped_loads-held : (before after : ShelfView) (kepts : List KeptView) (fault : LoadFault) → IsStopped before after kepts fault → after.held ≡ before.held
-stopped_loads-held before after kepts fault is =
-    failed_load-held (after_loads before is.done is.manifests) after is.kept fault is.failed ∙ loads_held before is.done is.manifests
-
--- nor do they write or erase
-
-pub record IsUnwritten (before after : ShelfView) : Type 0 where
-  pub wrote : after.wrote ≡ before.wrote
-  pub erased : after.erased ≡ before.erased
+pub stopped_loads-held : (cache cache' : Entries) (before after : ShelfView) (kepts : List KeptView) (fault : LoadFault) → IsStopped cache cache' before after kepts fault → after.held ≡ before.held
+stopped_loads-held cache cache' before after kepts fault is =
+    failed_load-held (after_loads (held cache) before is.done is.manifests) after is.kept fault is.failed ∙ loads_held (held cache) before is.done is.manifests
 
 pub same_unwritten : (before after : ShelfView) → after ≡ before → IsUnwritten before after
 same_unwritten before after same = record { wrote = ap (λ (s : ShelfView). s.wrote) same; erased = ap (λ (s : ShelfView). s.erased) same }
@@ -54,12 +63,12 @@ same_unwritten before after same = record { wrote = ap (λ (s : ShelfView). s.wr
 pub unwritten_then : (one two three : ShelfView) → IsUnwritten one two → IsUnwritten two three → IsUnwritten one three
 unwritten_then one two three first second = record { wrote = second.wrote ∙ first.wrote; erased = second.erased ∙ first.erased }
 
-pub loads_unwritten : (shelf : ShelfView) (kepts : List KeptView) (manifests : List Manifest) → IsUnwritten shelf (after_loads shelf kepts manifests)
-loads_unwritten shelf [] manifests = record { wrote = refl; erased = refl }
-loads_unwritten shelf (kept ∷ kepts) [] = record { wrote = refl; erased = refl }
-loads_unwritten shelf (kept ∷ kepts) (manifest ∷ manifests) =
-    let rest = loads_unwritten (after_load shelf kept manifest) kepts manifests in
-    record { wrote = rest.wrote; erased = rest.erased }
+pub loads_unwritten : (holds : Holding) (shelf : ShelfView) (kepts : List KeptView) (manifests : List Manifest) → IsUnwritten shelf (after_loads holds shelf kepts manifests)
+loads_unwritten holds shelf [] manifests = record { wrote = refl; erased = refl }
+loads_unwritten holds shelf (kept ∷ kepts) [] = record { wrote = refl; erased = refl }
+loads_unwritten holds shelf (kept ∷ kepts) (manifest ∷ manifests) =
+    let turn = after_turn holds shelf kept manifest in
+    unwritten_then shelf turn (after_loads holds turn kepts manifests) (turn_quiet (holds kept) shelf kept manifest).unwritten (loads_unwritten holds turn kepts manifests)
 
 read_unwritten : (before after : ShelfView) (name : List ℕ) (at max : ℕ) (bytes : List ℕ) → HasRead before after name at max bytes → IsUnwritten before after
 read_unwritten before after name at max bytes has = record { wrote = ap (λ (s : ShelfView). s.wrote) has.call; erased = ap (λ (s : ShelfView). s.erased) has.call }
@@ -72,10 +81,10 @@ failed_load-unwritten before after kept Memory (inl (inl same)) = same_unwritten
 failed_load-unwritten before after kept Memory (inl (inr same)) = record { wrote = ap (λ (s : ShelfView). s.wrote) same; erased = ap (λ (s : ShelfView). s.erased) same }
 failed_load-unwritten before after kept Memory (inr (given, has)) = read_unwritten before after (object_text (ManifestObject kept.id)) 0 (48 * kept.chunks) given has
 
-pub stopped_loads-unwritten : (before after : ShelfView) (kepts : List KeptView) (fault : LoadFault) → IsStopped before after kepts fault → IsUnwritten before after
-stopped_loads-unwritten before after kepts fault is =
-    let between = after_loads before is.done is.manifests in
-    unwritten_then before between after (loads_unwritten before is.done is.manifests) (failed_load-unwritten between after is.kept fault is.failed)
+pub stopped_loads-unwritten : (cache cache' : Entries) (before after : ShelfView) (kepts : List KeptView) (fault : LoadFault) → IsStopped cache cache' before after kepts fault → IsUnwritten before after
+stopped_loads-unwritten cache cache' before after kepts fault is =
+    let between = after_loads (held cache) before is.done is.manifests in
+    unwritten_then before between after (loads_unwritten (held cache) before is.done is.manifests) (failed_load-unwritten between after is.kept fault is.failed)
 
 -- ---- a segment that was not committed
 

@@ -1,16 +1,23 @@
 -- What a session's loads gave, and what it stores against them.
 use Rattle.std.proofs.Common.{◌≡◌, ℕ, ◌≤◌, ◌==◌, ◌⊎◌, true, false, List, [], ◌∷◌, ◌++◌, length, Option, Some, refl, sym, ap, ◌∙◌, subst, inl, inr, arith, append_assoc, length-append}
-use Rattle.std.specs.List.{slice_index_or}
+use Rattle.history_laws.proofs.SessionLaws.{has_older, committed_below}
+use Rattle.segment_store.proofs.LoadLaws.{turn_held, turn_loaded}
+use Rattle.segment_store.specs.Loads.IsThere.{was_held, was_loaded}
+use Rattle.manifest_cache.proofs.HeldLaws.{held_lies}
+use Rattle.manifest_cache.specs.Cached.{CachedView, listed_by, cached, held}
+use Rattle.chunk_name.specs.Pieces.{name_of_bytes}
+use Rattle.ss_base.specs.declared.ids.Place.{Place}
+use Rattle.std.specs.List.{slice_index_or, Contains}
 use Rattle.std.specs.Option.{unwrap_or}
-use Rattle.std.proofs.lemmas.Bool.{and_parts}
+use Rattle.std.proofs.lemmas.Bool.{and_parts, cases_Bool}
 use Rattle.ss_base.specs.declared.ids.ManifestId.{ManifestId}
 use Rattle.ss_base.specs.declared.name.Name.{Name}
 use Rattle.ss_base.specs.declared.profile.Numbers.{Numbers}
 use Rattle.ss_base.specs.Ids.{same_manifest, has_manifest}
-use Rattle.ss_base.proofs.IdLaws.{same_manifest-self}
-use Rattle.ss_base.proofs.MemberLaws.{In, in_any, count_one}
+use Rattle.ss_base.proofs.IdLaws.{same_manifest-self, same_manifest-true}
+use Rattle.ss_base.proofs.MemberLaws.{In, in_any, count_one, in_Contains}
 use Rattle.manifest_codec.specs.declared.manifest.Manifest.{Manifest}
-use Rattle.manifest_codec.specs.Text.{manifest_text}
+use Rattle.manifest_codec.specs.Text.{manifest_text, AreManifest}
 use Rattle.container_file.specs.declared.container_end.ContainerEnd.{ContainerEnd}
 use Rattle.segment_plan.specs.Plan.{Located, end_against}
 use Rattle.segment_plan.specs.Planned.{located}
@@ -27,13 +34,13 @@ use Rattle.history_laws.proofs.LiveLaws.{pending_live}
 use Rattle.store_core.specs.declared.values.Stored.{Stored}
 use Rattle.store_core.specs.View.{KeptView, kept, all_kept, made}
 use Rattle.depot.specs.Loading.{IsLoaded}
-use Rattle.segment_store.specs.Loads.{after_load, after_loads, AreLoaded}
+use Rattle.segment_store.specs.Loads.{after_load, after_loads, AreLoaded, Entries, Holding, after_turn, IsThere, IsOfLoad, HasCached}
 use Rattle.segment_store.specs.Stored.{after_segment, IsStoredOf}
 use Rattle.session.specs.Stores.{no_end}
 use Rattle.stored_streams.specs.Streams.{Streams, manifest_chunks, manifest_pieces}
-use Rattle.stored_streams.specs.Plans.{Planned, planned_places, end_of, plan_for, plans_of}
+use Rattle.stored_streams.specs.Plans.{Planned, planned_places, end_of, plan_for, plans_of, plan_of}
 use Rattle.stored_streams.specs.OfStreams.{next_of, StoresSegment}
-use Rattle.stored_streams.specs.Loads.{Loads, loaded_after, loaded_plans, IsLoadOf, AreLoadsOf, AbortsLoaded, LoadedOf, StoresLoaded}
+use Rattle.stored_streams.specs.Loads.{Loads, loaded_after, loaded_plans, IsLoadOf, AreLoadsOf, AbortsLoaded, LoadedOf, StoresLoaded, loaded_text}
 use Rattle.stored_streams.proofs.PlanLaws.{end_own}
 use Rattle.backed_up_streams.proofs.ContentLaws.{self}
 use Rattle.stored_streams.proofs.ToldLaws.{GaveMore}
@@ -77,6 +84,25 @@ module _ (n : Numbers) (streams : Streams) (older : List Entry) (author session 
     pub told : Told gave newer plans (after_load shelf view manifest)
     pub source : Allowed (newer ++ older) → In (text_loaded manifest) gave ⊎ (text_loaded manifest ≡ manifest_text (manifest_pieces n streams view.id) (planned_places view.id plans))
 
+  -- an entry of the cache: its manifest is committed, and its text is one of these or was planned
+  pub record IsBacked (texts : List (List ℕ)) (newer : List Entry) (plans : List Planned) (entry : ManifestId × CachedView) : Type 0 where
+    pub committed : has (commits_manifest entry.0) (newer ++ older) ≡ true
+    pub source : In (loaded_text entry.1.manifest) texts ⊎ (loaded_text entry.1.manifest ≡ manifest_text (manifest_pieces n streams entry.0) (planned_places entry.0 plans))
+
+  -- each is so
+  abbrev pub AreBacked : List (List ℕ) → List Entry → List Planned → Entries → Type 0
+  AreBacked texts newer plans cache = Allowed (newer ++ older) → (entry : ManifestId × CachedView) → Contains cache entry → IsBacked texts newer plans entry
+
+  source_more : (gave all : List (List ℕ)) (text : List ℕ) (P : Type 0) → ((b : List ℕ) → In b gave → In b all) → In text gave ⊎ P → In text all ⊎ P
+  source_more gave all text P more (inl there) = inl (more text there)
+  source_more gave all text P more (inr planned) = inr planned
+
+  backed_more : (texts gave : List (List ℕ)) (newer : List Entry) (plans : List Planned) (entry : ManifestId × CachedView) → ((b : List ℕ) → In b texts → In b gave) → IsBacked texts newer plans entry → IsBacked gave newer plans entry
+  backed_more texts gave newer plans entry more is = record {
+    committed = is.committed;
+    source = source_more texts gave (loaded_text entry.1.manifest) (loaded_text entry.1.manifest ≡ manifest_text (manifest_pieces n streams entry.0) (planned_places entry.0 plans)) more is.source;
+  }
+
   -- what is known of the depot's shelf while the session goes on: it stays so behind a load, a choice and a commit
   pub record IsTelling : Type 0 where
     pub before : (entry : Entry) (past : List Entry) → Allowed (entry ∷ past) → Allowed past
@@ -97,59 +123,95 @@ module _ (n : Numbers) (streams : Streams) (older : List Entry) (author session 
   module _ (telling : IsTelling) where
     -- ---- the loads of a list of champions
 
-    pub record LoadsTold (texts : List (List ℕ)) (newer : List Entry) (plans : List Planned) (shelf : ShelfView) (ids : List ManifestId) (manifests : List Manifest) : Type 0 where
+    pub record LoadsTold (texts : List (List ℕ)) (newer : List Entry) (plans : List Planned) (holds : Holding) (shelf : ShelfView) (ids : List ManifestId) (manifests : List Manifest) : Type 0 where
       pub gave : List (List ℕ)
       pub older_too : (b : List ℕ) → In b texts → In b gave
       pub told : Told gave newer plans shelf
       pub are : Allowed (newer ++ older) → (all : List (List ℕ)) → ((b : List ℕ) → In b gave → In b all) → AreLoadsOf n streams (λ b. In b all) (newer ++ older) plans ids (located manifests)
+      pub backed : Allowed (newer ++ older) → (entry : ManifestId × CachedView) → IsOfLoad holds (all_kept ids (newer ++ older)) manifests entry → IsBacked gave newer plans entry
 
-    one_load : (all : List (List ℕ)) (past : List Entry) (plans : List Planned) (id : ManifestId) (manifest : Manifest) (shelf after : ShelfView) (is : IsKept id past) → IsLoaded shelf after is.view manifest
+    -- one of them, which the cache held or which was loaded
+    record OneTold (texts : List (List ℕ)) (newer : List Entry) (plans : List Planned) (shelf : ShelfView) (view : KeptView) (manifest : Manifest) : Type 0 where
+      gave : List (List ℕ)
+      older_too : (b : List ℕ) → In b texts → In b gave
+      told : Told gave newer plans shelf
+      source : Allowed (newer ++ older) → In (text_loaded manifest) gave ⊎ (text_loaded manifest ≡ manifest_text (manifest_pieces n streams view.id) (planned_places view.id plans))
+      like : AreManifest manifest.pieces.items manifest.places.items
+      digest : name_of_bytes (text_loaded manifest) ≡ view.text
+
+    one_told : (texts : List (List ℕ)) (newer : List Entry) (plans : List Planned) (cache : Entries) (shelf : ShelfView) (view : KeptView) (manifest : Manifest)
+        → is_live view.id (newer ++ older) ≡ true → kept view.id (newer ++ older) ≡ Some view → Told texts newer plans shelf → AreBacked texts newer plans cache
+        → IsThere (held cache) shelf view manifest → OneTold texts newer plans (after_turn (held cache) shelf view manifest) view manifest
+    one_told texts newer plans cache shelf view manifest live kept_is told backed (was_held is of) = record {
+      gave = texts;
+      older_too = λ b there. there;
+      told = subst (Told texts newer plans) (sym (turn_held (held cache) shelf view manifest (listed_by manifest) is)) told;
+      source = λ allowed. (backed allowed (view.id, cached view (listed_by manifest)) (held_lies cache view (listed_by manifest) is)).source;
+      like = of.like.manifest;
+      digest = of.digest;
+    }
+    one_told texts newer plans cache shelf view manifest live kept_is told backed (was_loaded none loaded) =
+        let one = telling.load texts newer plans shelf view manifest live kept_is loaded told in
+        record {
+          gave = one.gave;
+          older_too = one.older_too;
+          told = subst (Told one.gave newer plans) (sym (turn_loaded (held cache) shelf view manifest none)) one.told;
+          source = one.source;
+          like = loaded.like.manifest;
+          digest = loaded.digest;
+        }
+
+    one_load : (all : List (List ℕ)) (past : List Entry) (plans : List Planned) (id : ManifestId) (manifest : Manifest) (is : IsKept id past)
+        → AreManifest manifest.pieces.items manifest.places.items → name_of_bytes (text_loaded manifest) ≡ is.view.text
         → In (text_loaded manifest) all ⊎ (text_loaded manifest ≡ manifest_text (manifest_pieces n streams is.view.id) (planned_places is.view.id plans))
         → IsLoadOf n streams (λ b. In b all) past plans id (record { pieces = manifest.pieces.items; places = manifest.places.items })
-    one_load all past plans id manifest shelf after is loaded source = record {
-      manifest = loaded.like.manifest;
-      digest = λ view kept_is. loaded.digest ∙ ap (λ (o : Option KeptView). (unwrap_or o is.view).text) (sym is.kept_is ∙ kept_is);
+    one_load all past plans id manifest is like digest source = record {
+      manifest = like;
+      digest = λ view kept_is. digest ∙ ap (λ (o : Option KeptView). (unwrap_or o is.view).text) (sym is.kept_is ∙ kept_is);
       source = subst (λ (i : ManifestId). In (text_loaded manifest) all ⊎ (text_loaded manifest ≡ manifest_text (manifest_pieces n streams i) (planned_places i plans))) is.same source;
     }
 
-    source_more : (gave all : List (List ℕ)) (text : List ℕ) (P : Type 0) → ((b : List ℕ) → In b gave → In b all) → In text gave ⊎ P → In text all ⊎ P
-    source_more gave all text P more (inl there) = inl (more text there)
-    source_more gave all text P more (inr planned) = inr planned
-
-    pub all_loads : (texts : List (List ℕ)) (newer : List Entry) (plans : List Planned) (shelf : ShelfView) (ids : List ManifestId) (manifests : List Manifest)
+    pub all_loads : (texts : List (List ℕ)) (newer : List Entry) (plans : List Planned) (cache : Entries) (shelf : ShelfView) (ids : List ManifestId) (manifests : List Manifest)
         → ((id : ManifestId) → In id ids → is_live id (newer ++ older) ≡ true)
-        → AreLoaded shelf (all_kept ids (newer ++ older)) manifests
-        → Told texts newer plans shelf → LoadsTold texts newer plans (after_loads shelf (all_kept ids (newer ++ older)) manifests) ids manifests
-    all_loads texts newer plans shelf [] [] live are told = record { gave = texts; older_too = λ b there. there; told = told; are = λ allowed all more. tt }
-    all_loads texts newer plans shelf [] (manifest ∷ manifests) live are told = absurd are
-    all_loads texts newer plans shelf (id ∷ ids) [] live are told =
+        → AreLoaded (held cache) shelf (all_kept ids (newer ++ older)) manifests
+        → Told texts newer plans shelf → AreBacked texts newer plans cache → LoadsTold texts newer plans (held cache) (after_loads (held cache) shelf (all_kept ids (newer ++ older)) manifests) ids manifests
+    all_loads texts newer plans cache shelf [] [] live are told backed = record { gave = texts; older_too = λ b there. there; told = told; are = λ allowed all more. tt; backed = λ allowed entry of. absurd of }
+    all_loads texts newer plans cache shelf [] (manifest ∷ manifests) live are told backed = absurd are
+    all_loads texts newer plans cache shelf (id ∷ ids) [] live are told backed =
         let past = newer ++ older in
         let is = kept_there id past (live_committed id past (live id (inl refl))) in
         let kepts = all_kept-first id ids past is.view is.kept_is in
-        absurd (subst (λ (ks : List KeptView). AreLoaded shelf ks []) kepts are)
-    all_loads texts newer plans shelf (id ∷ ids) (manifest ∷ manifests) live are told =
+        absurd (subst (λ (ks : List KeptView). AreLoaded (held cache) shelf ks []) kepts are)
+    all_loads texts newer plans cache shelf (id ∷ ids) (manifest ∷ manifests) live are told backed =
         let past = newer ++ older in
+        let holds = held cache in
         let is = kept_there id past (live_committed id past (live id (inl refl))) in
         let kepts = all_kept-first id ids past is.view is.kept_is in
-        let loaded = subst (λ (ks : List KeptView). AreLoaded shelf ks (manifest ∷ manifests)) kepts are in
+        let loaded = subst (λ (ks : List KeptView). AreLoaded holds shelf ks (manifest ∷ manifests)) kepts are in
         let own_live : is_live is.view.id past ≡ true = subst (λ (i : ManifestId). is_live i past ≡ true) (sym is.same) (live id (inl refl)) in
         let own_kept : kept is.view.id past ≡ Some is.view = ap (λ (i : ManifestId). kept i past) is.same ∙ is.kept_is in
-        let one = telling.load texts newer plans shelf is.view manifest own_live own_kept loaded.0 told in
-        let rest = all_loads one.gave newer plans (after_load shelf is.view manifest) ids manifests (λ i there. live i (inr there)) loaded.1 one.told in
+        let one = one_told texts newer plans cache shelf is.view manifest own_live own_kept told backed loaded.0 in
+        let rest = all_loads one.gave newer plans cache (after_turn holds shelf is.view manifest) ids manifests (λ i there. live i (inr there)) loaded.1 one.told
+        (λ allowed entry lies. backed_more texts one.gave newer plans entry one.older_too (backed allowed entry lies)) in
+        let planned = text_loaded manifest ≡ manifest_text (manifest_pieces n streams is.view.id) (planned_places is.view.id plans) in
         record {
           gave = rest.gave;
           older_too = λ b there. rest.older_too b (one.older_too b there);
-          told = subst (λ (ks : List KeptView). Told rest.gave newer plans (after_loads shelf ks (manifest ∷ manifests))) (sym kepts) rest.told;
+          told = subst (λ (ks : List KeptView). Told rest.gave newer plans (after_loads holds shelf ks (manifest ∷ manifests))) (sym kepts) rest.told;
           are = λ allowed all more. (
-            one_load all past plans id manifest shelf (after_load shelf is.view manifest) is loaded.0
-                (source_more one.gave all (text_loaded manifest) (text_loaded manifest ≡ manifest_text (manifest_pieces n streams is.view.id) (planned_places is.view.id plans)) (λ b there. more b (rest.older_too b there)) (one.source allowed)),
+            one_load all past plans id manifest is one.like one.digest (source_more one.gave all (text_loaded manifest) planned (λ b there. more b (rest.older_too b there)) (one.source allowed)),
             rest.are allowed all more,
           );
+          backed = λ allowed entry of. elim (subst (λ (ks : List KeptView). IsOfLoad holds ks (manifest ∷ manifests) entry) kepts of) [
+            | inl here ↦ subst (λ (e : ManifestId × CachedView). IsBacked rest.gave newer plans e) (sym here.1)
+                (record { committed = live_committed is.view.id past own_live; source = source_more one.gave rest.gave (text_loaded manifest) planned rest.older_too (one.source allowed) })
+            | inr later ↦ rest.backed allowed entry later
+          ];
         }
 
     -- ---- a session so far
 
-    pub record IsSoFar (count : ℕ) (past : List Entry) (shelf : ShelfView) (end : ContainerEnd) : Type 0 where
+    pub record IsSoFar (count : ℕ) (past : List Entry) (shelf : ShelfView) (end : ContainerEnd) (cache : Entries) : Type 0 where
       pub newer : List Entry
       pub past_is : past ≡ newer ++ older
       pub counted : commits_of session (newer ++ older) ≡ count
@@ -160,12 +222,13 @@ module _ (n : Numbers) (streams : Streams) (older : List Entry) (author session 
       pub end_is : end_of session plans ≡ end
       pub texts : List (List ℕ)
       pub told : Told texts newer plans shelf
+      pub backed : AreBacked texts newer plans cache
       pub stores : Allowed (newer ++ older) → (tail : List (List Located)) (all : List (List ℕ)) → ((b : List ℕ) → In b texts → In b all) → StoresLoaded n streams (loads_of (lists ++ tail)) (λ b. In b all) newer older
 
     -- a choice
-    pub chosen_so_far : (count : ℕ) (past : List Entry) (shelf : ShelfView) (end : ContainerEnd) (chosen : List Name) (ids : List ManifestId) → IsSoFar count past shelf end → IsSoFar count (made author (Choose session chosen ids) ∷ past) shelf end
+    pub chosen_so_far : (count : ℕ) (past : List Entry) (shelf : ShelfView) (end : ContainerEnd) (cache : Entries) (chosen : List Name) (ids : List ManifestId) → IsSoFar count past shelf end cache → IsSoFar count (made author (Choose session chosen ids) ∷ past) shelf end cache
     unfolding loaded_plans loaded_after commits_of commits
-    chosen_so_far count past shelf end chosen ids so =
+    chosen_so_far count past shelf end cache chosen ids so =
         let choice = made author (Choose session chosen ids) in
         record {
           newer = choice ∷ so.newer;
@@ -178,6 +241,9 @@ module _ (n : Numbers) (streams : Streams) (older : List Entry) (author session 
           end_is = so.end_is;
           texts = so.texts;
           told = telling.choose so.texts so.newer so.plans shelf chosen ids so.told;
+          backed = λ allowed entry lies.
+              let is = so.backed (telling.before choice (so.newer ++ older) allowed) entry lies in
+              record { committed = has_older (commits_manifest entry.0) choice (so.newer ++ older) is.committed; source = is.source };
           stores = λ allowed tail all more. (so.stores (telling.before choice (so.newer ++ older) allowed) tail all more, tt);
         }
 
@@ -201,7 +267,7 @@ module _ (n : Numbers) (streams : Streams) (older : List Entry) (author session 
       pub wrote : IsUnwritten then_shelf after ⊎ PutsPending n streams older session Allowed texts then_newer then_plans count last then_shelf after
       pub stores : Allowed (last ∷ (then_newer ++ older)) → (all : List (List ℕ)) → ((b : List ℕ) → In b texts → In b all) → StoresLoaded n streams loads (λ b. In b all) (last ∷ then_newer) older
 
-    module _ (count : ℕ) (past : List Entry) (shelf : ShelfView) (end : ContainerEnd) (so : IsSoFar count past shelf end) (after : ShelfView) (gave : GaveMore shelf after) (held : after.held ≡ shelf.held) (unwritten : IsUnwritten shelf after) where
+    module _ (count : ℕ) (past : List Entry) (shelf : ShelfView) (end : ContainerEnd) (cache : Entries) (so : IsSoFar count past shelf end cache) (after : ShelfView) (gave : GaveMore shelf after) (held : after.held ≡ shelf.held) (unwritten : IsUnwritten shelf after) where
       -- with an end that has as many containers as are laid out
       ended : (point : Point) → ((id : ManifestId) → commits_manifest id point ≡ false) → ((all : List (List ℕ)) (plans : List Planned) → end_of session plans ≡ end → LoadedOf n streams (loads_of (so.lists ++ [])) (λ b. In b all) (so.newer ++ older) plans point)
           → ((e : ContainerEnd) → e ≡ end → Closes session e.containers count (made author point)) → HasEnded (made author point ∷ past) after
@@ -236,7 +302,7 @@ module _ (n : Numbers) (streams : Streams) (older : List Entry) (author session 
     -- ---- its start
 
     pub start_so_far : (name : List ℕ) (shelf : ShelfView) → commits_of session (made author (Begin name (Some session)) ∷ older) ≡ 0 → Told [] (made author (Begin name (Some session)) ∷ []) (plans_of n streams older) shelf
-        → IsSoFar 0 (made author (Begin name (Some session)) ∷ older) shelf (no_end session)
+        → IsSoFar 0 (made author (Begin name (Some session)) ∷ older) shelf (no_end session) []
     unfolding loaded_plans loaded_after commits_of commits
     start_so_far name shelf none told = record {
       newer = made author (Begin name (Some session)) ∷ [];
@@ -249,12 +315,13 @@ module _ (n : Numbers) (streams : Streams) (older : List Entry) (author session 
       end_is = end_at_first n streams session older none;
       texts = [];
       told = told;
+      backed = λ allowed entry lies. absurd (in_Contains entry [] lies);
       stores = λ allowed tail all more. (tt, tt);
     }
 
     -- ---- the segment behind a choice
 
-    module _ (front rest : List (List (List ℕ))) (chunks : List (List ℕ)) (are : segments_of n (streams session) ≡ front ++ chunks ∷ rest) (rules : Rules) (past : List Entry) (legal : is_legal rules past ≡ true) (shelf : ShelfView) (end : ContainerEnd) (so : IsSoFar (length front) past shelf end) (ids : List ManifestId) (pending_are : pending_champions session past ≡ ids) (manifests : List Manifest) (loaded : AreLoaded shelf (all_kept ids past) manifests) where
+    module _ (front rest : List (List (List ℕ))) (chunks : List (List ℕ)) (are : segments_of n (streams session) ≡ front ++ chunks ∷ rest) (rules : Rules) (past : List Entry) (legal : is_legal rules past ≡ true) (shelf : ShelfView) (end : ContainerEnd) (cache : Entries) (so : IsSoFar (length front) past shelf end cache) (ids : List ManifestId) (pending_are : pending_champions session past ≡ ids) (manifests : List Manifest) (loaded : AreLoaded (held cache) shelf (all_kept ids past) manifests) where
       abbrev next : ManifestId
       next = record { session = session; seq = length front }
 
@@ -271,8 +338,8 @@ module _ (n : Numbers) (streams : Streams) (older : List Entry) (author session 
           (pending_live rules session id past legal
           (subst (λ (all : List ManifestId). has_manifest id all ≡ true) (sym pending_are) (in_any (same_manifest id) id ids there (same_manifest-self id))))
 
-      loads_now : LoadsTold so.texts so.newer so.plans (after_loads shelf (all_kept ids before) manifests) ids manifests
-      loads_now = all_loads so.texts so.newer so.plans shelf ids manifests champion_there (subst (λ (p : List Entry). AreLoaded shelf (all_kept ids p) manifests) so.past_is loaded) so.told
+      loads_now : LoadsTold so.texts so.newer so.plans (held cache) (after_loads (held cache) shelf (all_kept ids before) manifests) ids manifests
+      loads_now = all_loads so.texts so.newer so.plans cache shelf ids manifests champion_there (subst (λ (p : List Entry). AreLoaded (held cache) shelf (all_kept ids p) manifests) so.past_is loaded) so.told so.backed
 
       ids_now : pending_champions session before ≡ ids
       ids_now = ap (pending_champions session) (sym so.past_is) ∙ pending_are
@@ -328,8 +395,8 @@ module _ (n : Numbers) (streams : Streams) (older : List Entry) (author session 
             subst (λ (id : ManifestId). (end_against chunks against end n.room).containers ≡ (plan_for n streams id (loads id) plans).end.containers) (sym is_next) (laid_said tail plans same),
           )
 
-      pub given_up_pending : (after : ShelfView) (written : ℕ) → is_pending session past ≡ true → GaveMore (after_loads shelf (all_kept ids past) manifests) after
-          → HasPutSome next chunks against end n.room written (after_loads shelf (all_kept ids past) manifests) after → HasEnded (give_up written ∷ past) after
+      pub given_up_pending : (after : ShelfView) (written : ℕ) → is_pending session past ≡ true → GaveMore (after_loads (held cache) shelf (all_kept ids past) manifests) after
+          → HasPutSome next chunks against end n.room written (after_loads (held cache) shelf (all_kept ids past) manifests) after → HasEnded (give_up written ∷ past) after
       unfolding commits_manifest
       given_up_pending after written waits gave some = record {
         last = give_up written;
@@ -341,13 +408,13 @@ module _ (n : Numbers) (streams : Streams) (older : List Entry) (author session 
         loads = loads_of (so.lists ++ against ∷ []);
         texts = loads_now.gave;
         then_plans = so.plans;
-        then_shelf = after_loads shelf (all_kept ids before) manifests;
+        then_shelf = after_loads (held cache) shelf (all_kept ids before) manifests;
         told = loads_now.told;
-        gave_more = subst (λ (p : List Entry). GaveMore (after_loads shelf (all_kept ids p) manifests) after) so.past_is gave;
+        gave_more = subst (λ (p : List Entry). GaveMore (after_loads (held cache) shelf (all_kept ids p) manifests) after) so.past_is gave;
         left =
             put_some chunks against written (ap (λ (e : ContainerEnd). made author (Abort session (end_against chunks against e n.room).containers written)) (sym so.end_is))
-            (subst (λ (e : ContainerEnd). HasPutSome next chunks against e n.room written (after_loads shelf (all_kept ids before) manifests) after) (sym so.end_is)
-            (subst (λ (p : List Entry). HasPutSome next chunks against end n.room written (after_loads shelf (all_kept ids p) manifests) after) so.past_is some));
+            (subst (λ (e : ContainerEnd). HasPutSome next chunks against e n.room written (after_loads (held cache) shelf (all_kept ids before) manifests) after) (sym so.end_is)
+            (subst (λ (p : List Entry). HasPutSome next chunks against end n.room written (after_loads (held cache) shelf (all_kept ids p) manifests) after) so.past_is some));
         wrote = inr (record {
           against = against;
           containers = (end_against chunks against end n.room).containers;
@@ -356,9 +423,9 @@ module _ (n : Numbers) (streams : Streams) (older : List Entry) (author session 
           waits = subst (λ (p : List Entry). is_pending session p ≡ true) so.past_is waits;
           loads = loads_for;
           some =
-              subst (λ (cs : List (List ℕ)). HasPutSome next cs against (end_of session so.plans) n.room written (after_loads shelf (all_kept ids before) manifests) after) (sym the_chunks)
-              (subst (λ (e : ContainerEnd). HasPutSome next chunks against e n.room written (after_loads shelf (all_kept ids before) manifests) after) (sym so.end_is)
-              (subst (λ (p : List Entry). HasPutSome next chunks against end n.room written (after_loads shelf (all_kept ids p) manifests) after) so.past_is some));
+              subst (λ (cs : List (List ℕ)). HasPutSome next cs against (end_of session so.plans) n.room written (after_loads (held cache) shelf (all_kept ids before) manifests) after) (sym the_chunks)
+              (subst (λ (e : ContainerEnd). HasPutSome next chunks against e n.room written (after_loads (held cache) shelf (all_kept ids before) manifests) after) (sym so.end_is)
+              (subst (λ (p : List Entry). HasPutSome next chunks against end n.room written (after_loads (held cache) shelf (all_kept ids p) manifests) after) so.past_is some));
         });
         stores = λ allowed all more.
             let older_allowed = telling.before (give_up written) before allowed in
@@ -395,16 +462,47 @@ module _ (n : Numbers) (streams : Streams) (older : List Entry) (author session 
               (loads_said allowed all more tail plans (so.plans_are (against ∷ tail)), stores_said tail plans (so.plans_are (against ∷ tail))),
             )
 
-        pub committed_so_far : IsSoFar (length (front ++ chunks ∷ [])) (commit_it ∷ past) (after_segment (after_loads shelf (all_kept ids past) manifests) next chunks against end n.room) (end_against chunks against end n.room)
+        planned_other : (id : ManifestId) → same_manifest id next ≡ false → planned_places id (plan_for n streams next against so.plans ∷ so.plans) ≡ planned_places id so.plans
+        unfolding planned_places plan_of plan_for
+        planned_other id differ = rw differ refl
+
+        not_before : (id : ManifestId) → has (commits_manifest id) before ≡ true → same_manifest id next ≡ false
+        not_before id there = elim (cases_Bool (same_manifest id next)) [
+          | inl same ↦
+              let is : id ≡ next = same_manifest-true id next same in
+              let below = committed_below rules next before (subst (λ (p : List Entry). is_legal rules p ≡ true) so.past_is legal) (subst (λ (m : ManifestId). has (commits_manifest m) before ≡ true) is there) in
+              let counted = so.counted in
+              absurd (omega (arith, below, counted))
+          | inr differ ↦ differ
+        ]
+
+        -- an entry stays backed behind the commit
+        backed_still : (entry : ManifestId × CachedView) → IsBacked loads_now.gave so.newer so.plans entry → IsBacked loads_now.gave (commit_it ∷ so.newer) (plan_for n streams next against so.plans ∷ so.plans) entry
+        backed_still entry is = record {
+          committed = has_older (commits_manifest entry.0) commit_it before is.committed;
+          source =
+              subst (λ (ps : List Place). In (loaded_text entry.1.manifest) loads_now.gave ⊎ (loaded_text entry.1.manifest ≡ manifest_text (manifest_pieces n streams entry.0) ps))
+              (sym (planned_other entry.0 (not_before entry.0 is.committed))) is.source;
+        }
+
+        backed_now : (cache' : Entries) → HasCached cache cache' (all_kept ids past) manifests → AreBacked loads_now.gave (commit_it ∷ so.newer) (plan_for n streams next against so.plans ∷ so.plans) cache'
+        backed_now cache' has = λ allowed entry lies.
+            let earlier = telling.before commit_it before allowed in
+            elim (has entry lies) [
+              | inl was ↦ backed_still entry (backed_more so.texts loads_now.gave so.newer so.plans entry loads_now.older_too (so.backed earlier entry was))
+              | inr of ↦ backed_still entry (loads_now.backed earlier entry (subst (λ (p : List Entry). IsOfLoad (held cache) (all_kept ids p) manifests entry) so.past_is of))
+            ]
+
+        pub committed_so_far : (cache' : Entries) → HasCached cache cache' (all_kept ids past) manifests → IsSoFar (length (front ++ chunks ∷ [])) (commit_it ∷ past) (after_segment (after_loads (held cache) shelf (all_kept ids past) manifests) next chunks against end n.room) (end_against chunks against end n.room) cache'
         unfolding commits_of commits
-        committed_so_far =
+        committed_so_far cache' has_cached =
             let one = count_one (λ (x : Entry). commits session x.point) commit_it before (self session) in
             let counted = so.counted in
             let longer = length-append front (chunks ∷ []) in
             let lists_count = so.lists_count in
             let lists_longer = length-append so.lists (against ∷ []) in
             let told =
-            telling.commit rules loads_now.gave so.newer so.plans (after_loads shelf (all_kept ids before) manifests) (length front) chunks against stored
+            telling.commit rules loads_now.gave so.newer so.plans (after_loads (held cache) shelf (all_kept ids before) manifests) (length front) chunks against stored
             (subst (λ (p : List Entry). is_legal rules p ≡ true) so.past_is legal) so.counted the_chunks of_plans loads_for loads_now.told in
             record {
               newer = commit_it ∷ so.newer;
@@ -417,7 +515,8 @@ module _ (n : Numbers) (streams : Streams) (older : List Entry) (author session 
               end_is = end_own (plan_for n streams next against so.plans) session so.plans (next_session against) ∙ end_laid;
               texts = loads_now.gave;
               told =
-                  subst (λ (p : List Entry). Told loads_now.gave (commit_it ∷ so.newer) (plan_for n streams next against so.plans ∷ so.plans) (after_segment (after_loads shelf (all_kept ids p) manifests) next chunks against end n.room)) (sym so.past_is)
-                  (subst (λ (e : ContainerEnd). Told loads_now.gave (commit_it ∷ so.newer) (plan_for n streams next against so.plans ∷ so.plans) (after_segment (after_loads shelf (all_kept ids before) manifests) next chunks against e n.room)) so.end_is told);
+                  subst (λ (p : List Entry). Told loads_now.gave (commit_it ∷ so.newer) (plan_for n streams next against so.plans ∷ so.plans) (after_segment (after_loads (held cache) shelf (all_kept ids p) manifests) next chunks against end n.room)) (sym so.past_is)
+                  (subst (λ (e : ContainerEnd). Told loads_now.gave (commit_it ∷ so.newer) (plan_for n streams next against so.plans ∷ so.plans) (after_segment (after_loads (held cache) shelf (all_kept ids before) manifests) next chunks against e n.room)) so.end_is told);
+              backed = backed_now cache' has_cached;
               stores = λ allowed tail all more. subst (λ (ls : List (List Located)). StoresLoaded n streams (loads_of ls) (λ b. In b all) (commit_it ∷ so.newer) older) (sym (one_list tail)) (stores_now (telling.before commit_it before allowed) tail all more);
             }

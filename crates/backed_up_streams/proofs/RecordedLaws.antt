@@ -1,5 +1,6 @@
 -- A depot that tells its reads.
 use Rattle.std.proofs.Common.{◌≡◌, ℕ, ◌*◌, List, [], ◌∷◌, ◌++◌, Option, Some, Result, Ok, Err, refl, sym, ap, ◌∙◌, subst, inl}
+use Rattle.segment_store.specs.Loads.{Entries}
 use mathlib.Core.List.{map}
 use Rattle.std.proofs.lemmas.List.{map-append}
 use Rattle.ss_base.specs.declared.object.Object.TheVariants.{Manifest as ManifestObject}
@@ -127,28 +128,28 @@ module _ (standings champions : ℕ) (files : ShelfView) (input name : List ℕ)
       → Recorded (numbers_of before.seen.profile) streams (past_of before.seen) before.author started.caller.session depot (past_of after.seen) depot' → Is after depot'
   session-recorded started after depot' is = record { reads = is.reads; more = is.more; loaded = is.loaded }
 
-  pub backup-recorded : (after : IdleView) (depot' : ShelfView) (result : Result ℕ BackupFault) → BackupAnswer alone standings champions files input name before depot after depot' result
+  pub backup-recorded : (after : IdleView) (depot' : ShelfView) (cache' : Entries) (result : Result ℕ BackupFault) → BackupAnswer alone standings champions files input name before depot [] after depot' cache' result
       → IsOfInput streams (past_of before.seen) (past_of after.seen) (bytes_of objects input) → Is after depot'
-  backup-recorded after depot' (Ok number) has of_input =
+  backup-recorded after depot' cache' (Ok number) has of_input =
       let started = has.started in
       let streamed = has.streamed in
       let n = numbers_of before.seen.profile in
       let older = past_of before.seen in
       let session = started.caller.session in
       let newer : List Entry = made before.author (Begin name (Some session)) ∷ [] in
-      let stream_is = finished-of_input standings champions files input name before streams objects told started streamed.last depot after depot' streamed.finished of_input in
+      let stream_is = finished-of_input standings champions files input name before streams objects told started streamed.last depot [] after depot' cache' streamed.finished of_input in
       session-recorded started after depot'
       (ended-recorded n streams older before.author session depot (past_of after.seen) depot'
       (finished-run standings champions files input name before streams objects told started (Gave n streams older before.author session depot) (λ past. Unit {0}) (is_telling n streams older before.author session depot) depot
-      (at_first n streams older before.author session depot newer (plans_of n streams older)) stream_is streamed.last after depot' streamed.finished))
-  backup-recorded after depot' (Err fault) (not_started same has) of_input = not_started-recorded after depot' fault same has
-  backup-recorded after depot' (Err fault) (given_up started streamed) of_input =
+      (at_first n streams older before.author session depot newer (plans_of n streams older)) stream_is streamed.last after depot' cache' streamed.finished))
+  backup-recorded after depot' cache' (Err fault) (not_started same has) of_input = not_started-recorded after depot' fault same.0 has
+  backup-recorded after depot' cache' (Err fault) (given_up started streamed) of_input =
       let n = numbers_of before.seen.profile in
       let older = past_of before.seen in
       let session = started.caller.session in
       let newer : List Entry = made before.author (Begin name (Some session)) ∷ [] in
-      let stream_is = failed-of_input standings champions files input name before streams objects told started streamed.last depot after depot' fault streamed.failed of_input in
+      let stream_is = failed-of_input standings champions files input name before streams objects told started streamed.last depot [] after depot' cache' fault streamed.failed of_input in
       session-recorded started after depot'
       (ended-recorded n streams older before.author session depot (past_of after.seen) depot'
       (failed-run standings champions files input name before streams objects told started (Gave n streams older before.author session depot) (λ past. Unit {0}) (is_telling n streams older before.author session depot) depot
-      (at_first n streams older before.author session depot newer (plans_of n streams older)) stream_is streamed.last after depot' fault streamed.failed))
+      (at_first n streams older before.author session depot newer (plans_of n streams older)) stream_is streamed.last after depot' cache' fault streamed.failed))

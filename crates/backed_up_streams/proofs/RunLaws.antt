@@ -1,5 +1,6 @@
 -- What a whole backup stores against what was loaded.
 use Rattle.std.proofs.Common.{◌≡◌, ℕ, List, [], ◌∷◌, ◌++◌, length, Some, refl, sym, ap, ◌∙◌, subst, append_assoc}
+use Rattle.segment_store.specs.Loads.{Entries}
 use Rattle.std.proofs.lemmas.List.{append-nil}
 use Rattle.ss_base.specs.declared.profile.Numbers.{Numbers}
 use Rattle.ss_base.specs.Profile.{numbers_of}
@@ -52,14 +53,14 @@ module _ (standings champions : ℕ) (files : ShelfView) (input name : List ℕ)
     numbers_same : numbers_of started.caller.seen.profile ≡ the_numbers
     numbers_same = is_n standings champions files input name before streams objects told started
 
-    pub start : StandsSo the_numbers streams the_older before.author the_session Told Allowed telling standings champions 0 (at_start started.caller depot)
+    pub start : StandsSo the_numbers streams the_older before.author the_session Told Allowed telling standings champions 0 (at_start started.caller depot [])
     start = record {
       same_author = started.begun.author;
       same_session = refl;
       same_numbers = numbers_same;
       texts_are = refl;
       so =
-          subst (λ (p : List Entry). IsSoFar the_numbers streams the_older before.author the_session Told Allowed telling 0 p depot (no_end the_session)) (sym begins_with)
+          subst (λ (p : List Entry). IsSoFar the_numbers streams the_older before.author the_session Told Allowed telling 0 p depot (no_end the_session) []) (sym begins_with)
           (start_so_far the_numbers streams the_older before.author the_session Told Allowed telling name depot
           (ap (commits_of the_session) (sym begins_with) ∙ (begun_open alone standings champions before.author the_session name before.seen started.caller.seen started.begun.at_turn).commit_count)
           at_first);
@@ -74,23 +75,23 @@ module _ (standings champions : ℕ) (files : ShelfView) (input name : List ℕ)
         let front = input-front the_numbers files input objects last told work segments (subst (λ (m : Numbers). HasSplit m (input_view files input) last work segments) numbers_same split) in
         (front.0, whole_of (segments ++ front.0) front.1)
 
-    pub finished-run : (last : SourceView) (after : IdleView) (depot' : ShelfView) → HasFinishedStream alone standings champions started.caller (input_view files input) last depot after depot' → Ended (past_of after.seen) depot'
-    finished-run last after depot' run =
+    pub finished-run : (last : SourceView) (after : IdleView) (depot' : ShelfView) (cache' : Entries) → HasFinishedStream alone standings champions started.caller (input_view files input) last depot [] after depot' cache' → Ended (past_of after.seen) depot'
+    finished-run last after depot' cache' run =
         let segments = run.stored.segments in
         let given = subst (λ (m : Numbers). HasGivenAll m (input_view files input) last segments) numbers_same run.stored.given in
         let are = whole_of segments (input-whole the_numbers files input objects last told segments given) ∙ sym (append-nil segments) in
-        let stands = segments-so the_numbers streams the_older before.author the_session Told Allowed telling standings champions segments [] [] (at_start started.caller depot) run.last are start run.stored.stored in
+        let stands = segments-so the_numbers streams the_older before.author the_session Told Allowed telling standings champions segments [] [] (at_start started.caller depot []) run.last are start run.stored.stored in
         finish-ended the_numbers streams the_older before.author the_session Told Allowed telling standings champions (length segments) run.last stands after depot' run.shelf_is run.finished
 
-    pub failed-run : (last : SourceView) (after : IdleView) (depot' : ShelfView) (fault : BackupFault) → HasFailedStream alone standings champions started.caller (input_view files input) last depot after depot' fault → Ended (past_of after.seen) depot'
-    failed-run last after depot' fault (unread is same_source same_shelf gives) =
-        open-ended the_numbers streams the_older before.author the_session Told Allowed telling standings champions 0 (at_start started.caller depot) start after depot' same_shelf gives
-    failed-run last after depot' fault (stopped (reading segments now work end cause is same come ends gives)) =
+    pub failed-run : (last : SourceView) (after : IdleView) (depot' : ShelfView) (cache' : Entries) (fault : BackupFault) → HasFailedStream alone standings champions started.caller (input_view files input) last depot [] after depot' cache' fault → Ended (past_of after.seen) depot'
+    failed-run last after depot' cache' fault (unread is same_source same_shelf gives) =
+        open-ended the_numbers streams the_older before.author the_session Told Allowed telling standings champions 0 (at_start started.caller depot []) start after depot' same_shelf.0 gives
+    failed-run last after depot' cache' fault (stopped (reading segments now work end cause is same come ends gives)) =
         let front = front_of work now segments come.split in
-        let stands = segments-so the_numbers streams the_older before.author the_session Told Allowed telling standings champions segments [] front.0 (at_start started.caller depot) end front.1 start come.stored in
-        open-ended the_numbers streams the_older before.author the_session Told Allowed telling standings champions (length segments) end stands after depot' same gives
-    failed-run last after depot' fault (stopped (storing segments chunks work end split all up)) =
+        let stands = segments-so the_numbers streams the_older before.author the_session Told Allowed telling standings champions segments [] front.0 (at_start started.caller depot []) end front.1 start come.stored in
+        open-ended the_numbers streams the_older before.author the_session Told Allowed telling standings champions (length segments) end stands after depot' same.0 gives
+    failed-run last after depot' cache' fault (stopped (storing segments chunks work end split all up)) =
         let front = front_of work last (segments ++ chunks ∷ []) split in
         let are = front.1 ∙ append_assoc segments (chunks ∷ []) front.0 in
-        let stands = segments-so the_numbers streams the_older before.author the_session Told Allowed telling standings champions segments [] (chunks ∷ front.0) (at_start started.caller depot) end are start all in
-        segment-ended the_numbers streams the_older before.author the_session Told Allowed telling standings champions segments front.0 chunks are end stands after depot' fault up
+        let stands = segments-so the_numbers streams the_older before.author the_session Told Allowed telling standings champions segments [] (chunks ∷ front.0) (at_start started.caller depot []) end are start all in
+        segment-ended the_numbers streams the_older before.author the_session Told Allowed telling standings champions segments front.0 chunks are end stands after depot' cache' fault up

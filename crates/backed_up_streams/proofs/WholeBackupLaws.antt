@@ -1,5 +1,6 @@
 -- A backup leaves a whole depot whole.
 use Rattle.std.proofs.Common.{◌≡◌, ◌≢◌, ℕ, ◌<◌, ◌≤◌, ◌^◌, true, false, List, [], ◌∷◌, ◌++◌, Option, None, Some, Result, Ok, Err, refl, sym, ap, ◌∙◌, subst, inl, inr, arith, append-nil}
+use Rattle.segment_store.specs.Loads.{Entries}
 use Rattle.std.specs.FinMap as map_of
 use Rattle.std.specs.List.{All}
 use Rattle.std.proofs.lemmas.Bool.{false≢true}
@@ -320,29 +321,29 @@ module _ (standings champions : ℕ) (files : ShelfView) (input name : List ℕ)
     run-whole after depot' ended allowed =
         ended-whole numbers sound_numbers rules streams the_past before.author the_session stored keep no_commits tells (past_of after.seen) depot' ended allowed was
 
-  pub backup-whole : (after : IdleView) (depot' : ShelfView) (result : Result ℕ BackupFault) → BackupAnswer alone standings champions files input name before depot after depot' result
+  pub backup-whole : (after : IdleView) (depot' : ShelfView) (cache' : Entries) (result : Result ℕ BackupFault) → BackupAnswer alone standings champions files input name before depot [] after depot' cache' result
       → IsOfInput streams (past_of before.seen) (past_of after.seen) (bytes_of objects input) → is_legal rules (past_of after.seen) ≡ true → All IsEntry (past_of after.seen) → HasContents numbers streams (past_of after.seen)
       → IsWholeThen numbers streams (past_of after.seen) stored depot'
-  backup-whole after depot' (Ok number) has of_input legal entries contents =
+  backup-whole after depot' cache' (Ok number) has of_input legal entries contents =
       let started = has.started in
       let streamed = has.streamed in
-      let stream_is = finished-of_input standings champions files input name before streams objects told started streamed.last depot after depot' streamed.finished of_input in
+      let stream_is = finished-of_input standings champions files input name before streams objects told started streamed.last depot [] after depot' cache' streamed.finished of_input in
       run-whole started after depot'
-      (finished-run standings champions files input name before streams objects told started (ToldIs started) (AllowedIs started) (tells started) depot (at_first started) stream_is streamed.last after depot' streamed.finished)
+      (finished-run standings champions files input name before streams objects told started (ToldIs started) (AllowedIs started) (tells started) depot (at_first started) stream_is streamed.last after depot' cache' streamed.finished)
       (record { legal = legal; entries = entries; contents = contents })
-  backup-whole after depot' (Err fault) (not_started same has) of_input legal entries contents =
-      subst (λ (d : ShelfView). IsWholeThen numbers streams (past_of after.seen) stored d) (sym same) (added-whole after (unstarted-adds standings champions files input name before after fault has) legal)
-  backup-whole after depot' (Err fault) (given_up started streamed) of_input legal entries contents =
-      let stream_is = failed-of_input standings champions files input name before streams objects told started streamed.last depot after depot' fault streamed.failed of_input in
+  backup-whole after depot' cache' (Err fault) (not_started same has) of_input legal entries contents =
+      subst (λ (d : ShelfView). IsWholeThen numbers streams (past_of after.seen) stored d) (sym same.0) (added-whole after (unstarted-adds standings champions files input name before after fault has) legal)
+  backup-whole after depot' cache' (Err fault) (given_up started streamed) of_input legal entries contents =
+      let stream_is = failed-of_input standings champions files input name before streams objects told started streamed.last depot [] after depot' cache' fault streamed.failed of_input in
       run-whole started after depot'
-      (failed-run standings champions files input name before streams objects told started (ToldIs started) (AllowedIs started) (tells started) depot (at_first started) stream_is streamed.last after depot' fault streamed.failed)
+      (failed-run standings champions files input name before streams objects told started (ToldIs started) (AllowedIs started) (tells started) depot (at_first started) stream_is streamed.last after depot' cache' fault streamed.failed)
       (record { legal = legal; entries = entries; contents = contents })
 
-pub whole-backup : (standings champions : ℕ) (files : ShelfView) (input name : List ℕ) (before : IdleView) (streams : Streams) (objects : Objects) → files.held ≡ Some objects → (depot : ShelfView) (stored : Objects) → depot.held ≡ Some stored → (rules : Rules) (after : IdleView) (depot' : ShelfView) (result : Result ℕ BackupFault)
-    → BackupAnswer alone standings champions files input name before depot after depot' result
+pub whole-backup : (standings champions : ℕ) (files : ShelfView) (input name : List ℕ) (before : IdleView) (streams : Streams) (objects : Objects) → files.held ≡ Some objects → (depot : ShelfView) (stored : Objects) → depot.held ≡ Some stored → (rules : Rules) (after : IdleView) (depot' : ShelfView) (cache' : Entries) (result : Result ℕ BackupFault)
+    → BackupAnswer alone standings champions files input name before depot [] after depot' cache' result
     → IsOfInput streams (past_of before.seen) (past_of after.seen) (bytes_of objects input) → is_legal rules (past_of after.seen) ≡ true → All IsEntry (past_of after.seen)
     → IsOfStreams (numbers_of before.seen.profile) streams (past_of before.seen) → IsWhole (numbers_of before.seen.profile) streams (past_of before.seen) stored
     → IsWholeThen (numbers_of before.seen.profile) streams (past_of after.seen) stored depot'
-whole-backup standings champions files input name before streams objects told depot stored depot_told rules after depot' result has of_input legal entries was whole =
-    backup-whole standings champions files input name before streams objects told depot stored depot_told rules was whole after depot' result has of_input legal entries
-    (backup-has standings champions files input name before streams objects told depot after depot' result has of_input was.contents)
+whole-backup standings champions files input name before streams objects told depot stored depot_told rules after depot' cache' result has of_input legal entries was whole =
+    backup-whole standings champions files input name before streams objects told depot stored depot_told rules was whole after depot' cache' result has of_input legal entries
+    (backup-has standings champions files input name before streams objects told depot [] after depot' cache' result has of_input was.contents)

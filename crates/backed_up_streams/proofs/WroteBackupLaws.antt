@@ -1,5 +1,6 @@
 -- What a whole backup wrote to its depot.
 use Rattle.std.proofs.Common.{◌≡◌, ◌⊎◌, ℕ, true, List, [], ◌∷◌, Some, None, Result, Ok, Err, refl, sym, ap, ◌∙◌, subst, inl, inr}
+use Rattle.segment_store.specs.Loads.{Entries}
 use Rattle.std.specs.List.{All}
 use Rattle.ss_base.specs.declared.profile.Numbers.{Numbers}
 use Rattle.ss_base.specs.Profile.{numbers_of}
@@ -42,7 +43,7 @@ use Rattle.backed_up_streams.proofs.RunLaws.{finished-run, failed-run}
 use Rattle.backed_up_streams.proofs.UnstartedLaws.{AddsNoSession, unstarted-adds}
 use Rattle.backed_up_streams.proofs.WroteLaws.{WroteSo, is_writing, nothing_written, as_told, ended-erased, ended-wrote}
 
-module _ (standings champions : ℕ) (files : ShelfView) (input name : List ℕ) (before : IdleView) (streams : Streams) (objects : Objects) (told : files.held ≡ Some objects) (depot : ShelfView) (rules : Rules) (after : IdleView) (depot' : ShelfView) where
+module _ (standings champions : ℕ) (files : ShelfView) (input name : List ℕ) (before : IdleView) (streams : Streams) (objects : Objects) (told : files.held ≡ Some objects) (depot : ShelfView) (rules : Rules) (after : IdleView) (depot' : ShelfView) (cache' : Entries) where
   abbrev n : Numbers
   n = numbers_of before.seen.profile
 
@@ -122,23 +123,23 @@ module _ (standings champions : ℕ) (files : ShelfView) (input name : List ℕ)
                 (λ b there. inl (contains_from_in b (bytes_given all.reads) (texts_recorded n streams older before.author session depot past depot' base b there))) all.loaded,
           )
 
-    pub recorded-wrote : (result : Result ℕ BackupFault) → BackupAnswer alone standings champions files input name before depot after depot' result
+    pub recorded-wrote : (result : Result ℕ BackupFault) → BackupAnswer alone standings champions files input name before depot [] after depot' cache' result
         → IsOfInput streams older past (bytes_of objects input) → (reads : List Given) × ReadsMore depot depot' reads × Wrote (recorded reads)
     recorded-wrote (Ok number) has of_input =
         let started = has.started in
         let streamed = has.streamed in
         let session = started.caller.session in
-        let stream_is = finished-of_input standings champions files input name before streams objects told started streamed.last depot after depot' streamed.finished of_input in
+        let stream_is = finished-of_input standings champions files input name before streams objects told started streamed.last depot [] after depot' cache' streamed.finished of_input in
         recorded_wrote session
-        (finished-run standings champions files input name before streams objects told started (RecordedSo session) (AnyHistory session) (recorded_writing session) depot (recorded_first session) stream_is streamed.last after depot' streamed.finished)
+        (finished-run standings champions files input name before streams objects told started (RecordedSo session) (AnyHistory session) (recorded_writing session) depot (recorded_first session) stream_is streamed.last after depot' cache' streamed.finished)
     recorded-wrote (Err fault) (not_started same has) of_input =
         let none = gave_none depot in
-        ([], ap (λ (s : ShelfView). s.gave) same ∙ none, unstarted-wrote (recorded []) fault same has)
+        ([], ap (λ (s : ShelfView). s.gave) same.0 ∙ none, unstarted-wrote (recorded []) fault same.0 has)
     recorded-wrote (Err fault) (given_up started streamed) of_input =
         let session = started.caller.session in
-        let stream_is = failed-of_input standings champions files input name before streams objects told started streamed.last depot after depot' fault streamed.failed of_input in
+        let stream_is = failed-of_input standings champions files input name before streams objects told started streamed.last depot [] after depot' cache' fault streamed.failed of_input in
         recorded_wrote session
-        (failed-run standings champions files input name before streams objects told started (RecordedSo session) (AnyHistory session) (recorded_writing session) depot (recorded_first session) stream_is streamed.last after depot' fault streamed.failed)
+        (failed-run standings champions files input name before streams objects told started (RecordedSo session) (AnyHistory session) (recorded_writing session) depot (recorded_first session) stream_is streamed.last after depot' cache' fault streamed.failed)
 
     -- ---- where it tells its objects
 
@@ -169,17 +170,17 @@ module _ (standings champions : ℕ) (files : ShelfView) (input name : List ℕ)
           nothing_written n streams older before.author session (Holding session) (All IsEntry) (holder session) depot name
           (holding.at_first standings champions files input name before streams objects told depot stored depot_told started)
 
-      pub held-wrote : (result : Result ℕ BackupFault) → BackupAnswer alone standings champions files input name before depot after depot' result → IsOfInput streams older past (bytes_of objects input) → Wrote (held stored)
+      pub held-wrote : (result : Result ℕ BackupFault) → BackupAnswer alone standings champions files input name before depot [] after depot' cache' result → IsOfInput streams older past (bytes_of objects input) → Wrote (held stored)
       held-wrote (Ok number) has of_input =
           let started = has.started in
           let streamed = has.streamed in
           let session = started.caller.session in
-          let stream_is = finished-of_input standings champions files input name before streams objects told started streamed.last depot after depot' streamed.finished of_input in
+          let stream_is = finished-of_input standings champions files input name before streams objects told started streamed.last depot [] after depot' cache' streamed.finished of_input in
           held_wrote session
-          (finished-run standings champions files input name before streams objects told started (HeldSoFar session) (All IsEntry) (held_writing session) depot (held_first started) stream_is streamed.last after depot' streamed.finished)
-      held-wrote (Err fault) (not_started same has) of_input = unstarted-wrote (held stored) fault same has
+          (finished-run standings champions files input name before streams objects told started (HeldSoFar session) (All IsEntry) (held_writing session) depot (held_first started) stream_is streamed.last after depot' cache' streamed.finished)
+      held-wrote (Err fault) (not_started same has) of_input = unstarted-wrote (held stored) fault same.0 has
       held-wrote (Err fault) (given_up started streamed) of_input =
           let session = started.caller.session in
-          let stream_is = failed-of_input standings champions files input name before streams objects told started streamed.last depot after depot' fault streamed.failed of_input in
+          let stream_is = failed-of_input standings champions files input name before streams objects told started streamed.last depot [] after depot' cache' fault streamed.failed of_input in
           held_wrote session
-          (failed-run standings champions files input name before streams objects told started (HeldSoFar session) (All IsEntry) (held_writing session) depot (held_first started) stream_is streamed.last after depot' fault streamed.failed)
+          (failed-run standings champions files input name before streams objects told started (HeldSoFar session) (All IsEntry) (held_writing session) depot (held_first started) stream_is streamed.last after depot' cache' fault streamed.failed)

@@ -12,6 +12,7 @@ ghost use Rattle.history.specs.declared.rules.Rules.{Rules};
 ghost use Rattle.history.specs.Legal.{is_legal};
 ghost use Rattle.store_core.specs.View.{past_of};
 ghost use Rattle.history_calls.specs.Tokens.{IdleView};
+ghost use Rattle.segment_store.specs.Loads.{Entries};
 ghost use Rattle.session.specs.Backup.{BackupAnswer};
 ghost use Rattle.stored_streams.specs.Streams.{Streams};
 ghost use Rattle.stored_streams.specs.OfStreams.{HasContents, IsOfStreams};
@@ -30,8 +31,8 @@ ghost use Rattle.backed_up_streams.specs.Wrote.{HasWritten};
 /// session that it began, if any, is the input's bytes: behind a history whose choices and commits are those of its
 /// streams its history is one, too. It runs nothing.
 pub fn contents_of_a_backup()
-    ensures { (streams : Streams) (objects : Objects) (standings champions : ℕ) (files : ShelfView) (input name : List ℕ) (before : IdleView) (depot : ShelfView) (after : IdleView) (depot' : ShelfView) (result : Result ℕ BackupFault)
-        → BackupAnswer (λ came. came ≡ []) standings champions files input name before depot after depot' result
+    ensures { (streams : Streams) (objects : Objects) (standings champions : ℕ) (files : ShelfView) (input name : List ℕ) (before : IdleView) (depot : ShelfView) (cache : Entries) (after : IdleView) (depot' : ShelfView) (cache' : Entries) (result : Result ℕ BackupFault)
+        → BackupAnswer (λ came. came ≡ []) standings champions files input name before depot cache after depot' cache' result
         → files.held ≡ Some objects
         → IsOfInput streams (past_of before.seen) (past_of after.seen) (bytes_of objects input)
         → HasContents (numbers_of before.seen.profile) streams (past_of before.seen)
@@ -43,14 +44,14 @@ pub fn contents_of_a_backup()
 /// to. Where the depot tells its reads, those made meanwhile gave the manifests; where it tells its objects, what it held at
 /// first gave those of other sessions, and those of its own are as they were planned. It runs nothing.
 pub fn loads_of_a_backup()
-    ensures recorded { (streams : Streams) (objects : Objects) (standings champions : ℕ) (files : ShelfView) (input name : List ℕ) (before : IdleView) (depot : ShelfView) (after : IdleView) (depot' : ShelfView) (result : Result ℕ BackupFault)
-        → BackupAnswer (λ came. came ≡ []) standings champions files input name before depot after depot' result
+    ensures recorded { (streams : Streams) (objects : Objects) (standings champions : ℕ) (files : ShelfView) (input name : List ℕ) (before : IdleView) (depot : ShelfView) (after : IdleView) (depot' : ShelfView) (cache' : Entries) (result : Result ℕ BackupFault)
+        → BackupAnswer (λ came. came ≡ []) standings champions files input name before depot [] after depot' cache' result
         → files.held ≡ Some objects
         → IsOfInput streams (past_of before.seen) (past_of after.seen) (bytes_of objects input)
         → (reads : List Given) × ReadsMore depot depot' reads
         × HasLoaded (numbers_of before.seen.profile) streams (recorded reads ∷ []) (past_of before.seen) (past_of after.seen) }
-    ensures held { (streams : Streams) (objects stored : Objects) (standings champions : ℕ) (files : ShelfView) (input name : List ℕ) (before : IdleView) (depot : ShelfView) (after : IdleView) (depot' : ShelfView) (result : Result ℕ BackupFault)
-        → BackupAnswer (λ came. came ≡ []) standings champions files input name before depot after depot' result
+    ensures held { (streams : Streams) (objects stored : Objects) (standings champions : ℕ) (files : ShelfView) (input name : List ℕ) (before : IdleView) (depot : ShelfView) (after : IdleView) (depot' : ShelfView) (cache' : Entries) (result : Result ℕ BackupFault)
+        → BackupAnswer (λ came. came ≡ []) standings champions files input name before depot [] after depot' cache' result
         → files.held ≡ Some objects
         → depot.held ≡ Some stored
         → IsOfInput streams (past_of before.seen) (past_of after.seen) (bytes_of objects input)
@@ -61,8 +62,8 @@ pub fn loads_of_a_backup()
 /// Behind a history of the streams such a backup leaves one, or two different byte lists among those that were hashed
 /// have one SHA-256. It runs nothing.
 pub fn streams_of_a_backup()
-    ensures recorded { (streams : Streams) (objects : Objects) (rules : Rules) (standings champions : ℕ) (files : ShelfView) (input name : List ℕ) (before : IdleView) (depot : ShelfView) (after : IdleView) (depot' : ShelfView) (result : Result ℕ BackupFault)
-        → BackupAnswer (λ came. came ≡ []) standings champions files input name before depot after depot' result
+    ensures recorded { (streams : Streams) (objects : Objects) (rules : Rules) (standings champions : ℕ) (files : ShelfView) (input name : List ℕ) (before : IdleView) (depot : ShelfView) (after : IdleView) (depot' : ShelfView) (cache' : Entries) (result : Result ℕ BackupFault)
+        → BackupAnswer (λ came. came ≡ []) standings champions files input name before depot [] after depot' cache' result
         → files.held ≡ Some objects
         → IsOfInput streams (past_of before.seen) (past_of after.seen) (bytes_of objects input)
         → is_legal rules (past_of after.seen) ≡ true
@@ -71,8 +72,8 @@ pub fn streams_of_a_backup()
         → (reads : List Given) × ReadsMore depot depot' reads
         × (IsOfStreams (numbers_of before.seen.profile) streams (past_of after.seen)
         ⊎ Collide (numbers_of before.seen.profile) streams (past_of after.seen) (IsGiven (recorded reads ∷ []) (past_of after.seen))) }
-    ensures held { (streams : Streams) (objects stored : Objects) (rules : Rules) (standings champions : ℕ) (files : ShelfView) (input name : List ℕ) (before : IdleView) (depot : ShelfView) (after : IdleView) (depot' : ShelfView) (result : Result ℕ BackupFault)
-        → BackupAnswer (λ came. came ≡ []) standings champions files input name before depot after depot' result
+    ensures held { (streams : Streams) (objects stored : Objects) (rules : Rules) (standings champions : ℕ) (files : ShelfView) (input name : List ℕ) (before : IdleView) (depot : ShelfView) (after : IdleView) (depot' : ShelfView) (cache' : Entries) (result : Result ℕ BackupFault)
+        → BackupAnswer (λ came. came ≡ []) standings champions files input name before depot [] after depot' cache' result
         → files.held ≡ Some objects
         → depot.held ≡ Some stored
         → IsOfInput streams (past_of before.seen) (past_of after.seen) (bytes_of objects input)
@@ -86,8 +87,8 @@ pub fn streams_of_a_backup()
 /// Over a depot that is whole for a history of the streams such a backup leaves one that is whole for the longer history,
 /// and that one is of the streams without exception. It changes no object but containers and manifests. It runs nothing.
 pub fn whole_of_a_backup()
-    ensures { (streams : Streams) (objects stored : Objects) (rules : Rules) (standings champions : ℕ) (files : ShelfView) (input name : List ℕ) (before : IdleView) (depot : ShelfView) (after : IdleView) (depot' : ShelfView) (result : Result ℕ BackupFault)
-        → BackupAnswer (λ came. came ≡ []) standings champions files input name before depot after depot' result
+    ensures { (streams : Streams) (objects stored : Objects) (rules : Rules) (standings champions : ℕ) (files : ShelfView) (input name : List ℕ) (before : IdleView) (depot : ShelfView) (after : IdleView) (depot' : ShelfView) (cache' : Entries) (result : Result ℕ BackupFault)
+        → BackupAnswer (λ came. came ≡ []) standings champions files input name before depot [] after depot' cache' result
         → files.held ≡ Some objects
         → depot.held ≡ Some stored
         → IsOfInput streams (past_of before.seen) (past_of after.seen) (bytes_of objects input)
@@ -102,8 +103,8 @@ pub fn whole_of_a_backup()
 /// history knows of: of a session that was closed, a container or a manifest with a number below those it ended with. It
 /// runs nothing.
 pub fn objects_of_a_backup()
-    ensures { (objects stored : Objects) (rules : Rules) (standings champions : ℕ) (files : ShelfView) (input name : List ℕ) (before : IdleView) (depot : ShelfView) (after : IdleView) (depot' : ShelfView) (result : Result ℕ BackupFault)
-        → BackupAnswer (λ came. came ≡ []) standings champions files input name before depot after depot' result
+    ensures { (objects stored : Objects) (rules : Rules) (standings champions : ℕ) (files : ShelfView) (input name : List ℕ) (before : IdleView) (depot : ShelfView) (after : IdleView) (depot' : ShelfView) (cache' : Entries) (result : Result ℕ BackupFault)
+        → BackupAnswer (λ came. came ≡ []) standings champions files input name before depot [] after depot' cache' result
         → files.held ≡ Some objects
         → depot.held ≡ Some stored
         → is_legal rules (past_of after.seen) ≡ true
@@ -113,8 +114,8 @@ pub fn objects_of_a_backup()
 /// Over a depot that is whole for a history of the streams no such backup fails for damage: no champion's manifest has
 /// another digest than was kept, or is unlike what was kept. It runs nothing.
 pub fn whole_depots_show_no_damage()
-    ensures { (streams : Streams) (objects stored : Objects) (rules : Rules) (standings champions : ℕ) (files : ShelfView) (input name : List ℕ) (before : IdleView) (depot : ShelfView) (after : IdleView) (depot' : ShelfView) (fault : BackupFault)
-        → BackupAnswer (λ came. came ≡ []) standings champions files input name before depot after depot' (Err fault)
+    ensures { (streams : Streams) (objects stored : Objects) (rules : Rules) (standings champions : ℕ) (files : ShelfView) (input name : List ℕ) (before : IdleView) (depot : ShelfView) (after : IdleView) (depot' : ShelfView) (cache' : Entries) (fault : BackupFault)
+        → BackupAnswer (λ came. came ≡ []) standings champions files input name before depot [] after depot' cache' (Err fault)
         → files.held ≡ Some objects
         → depot.held ≡ Some stored
         → IsOfInput streams (past_of before.seen) (past_of after.seen) (bytes_of objects input)
@@ -130,8 +131,8 @@ pub fn whole_depots_show_no_damage()
 /// up with a choice pending, a front of the same of the segment that was chosen; or two different byte lists among those
 /// that were hashed have one SHA-256. It erased nothing. It runs nothing.
 pub fn written_by_a_backup()
-    ensures recorded { (streams : Streams) (objects : Objects) (rules : Rules) (standings champions : ℕ) (files : ShelfView) (input name : List ℕ) (before : IdleView) (depot : ShelfView) (after : IdleView) (depot' : ShelfView) (result : Result ℕ BackupFault)
-        → BackupAnswer (λ came. came ≡ []) standings champions files input name before depot after depot' result
+    ensures recorded { (streams : Streams) (objects : Objects) (rules : Rules) (standings champions : ℕ) (files : ShelfView) (input name : List ℕ) (before : IdleView) (depot : ShelfView) (after : IdleView) (depot' : ShelfView) (cache' : Entries) (result : Result ℕ BackupFault)
+        → BackupAnswer (λ came. came ≡ []) standings champions files input name before depot [] after depot' cache' result
         → files.held ≡ Some objects
         → IsOfInput streams (past_of before.seen) (past_of after.seen) (bytes_of objects input)
         → is_legal rules (past_of after.seen) ≡ true
@@ -139,8 +140,8 @@ pub fn written_by_a_backup()
         → IsOfStreams (numbers_of before.seen.profile) streams (past_of before.seen)
         → (reads : List Given) × ReadsMore depot depot' reads
         × HasWritten (numbers_of before.seen.profile) streams (recorded reads ∷ []) (past_of before.seen) (past_of after.seen) depot depot' }
-    ensures held { (streams : Streams) (objects stored : Objects) (rules : Rules) (standings champions : ℕ) (files : ShelfView) (input name : List ℕ) (before : IdleView) (depot : ShelfView) (after : IdleView) (depot' : ShelfView) (result : Result ℕ BackupFault)
-        → BackupAnswer (λ came. came ≡ []) standings champions files input name before depot after depot' result
+    ensures held { (streams : Streams) (objects stored : Objects) (rules : Rules) (standings champions : ℕ) (files : ShelfView) (input name : List ℕ) (before : IdleView) (depot : ShelfView) (after : IdleView) (depot' : ShelfView) (cache' : Entries) (result : Result ℕ BackupFault)
+        → BackupAnswer (λ came. came ≡ []) standings champions files input name before depot [] after depot' cache' result
         → files.held ≡ Some objects
         → depot.held ≡ Some stored
         → IsOfInput streams (past_of before.seen) (past_of after.seen) (bytes_of objects input)

@@ -1,6 +1,6 @@
 -- The best by score is the best of the definition, round by round.
 use Rattle.std.proofs.Common.{◌≡◌, ℕ, zero, suc, ◌<◌, Bool, true, false, eqb, ltb, leb, cond, ◌&&◌, ◌||◌, List, [], ◌∷◌, Option, Some, None, refl, sym, ap, ◌∙◌, subst, inl, inr, arith, eqb-true}
-use Rattle.std.specs.List.{find, list_any, list_all, Contains, All}
+use Rattle.std.specs.List.{find, list_any, list_all, Contains}
 use Rattle.std.specs.Option.{IfSome, option_map_or, option_map}
 use Rattle.std.specs.Map.{lookup}
 use Rattle.std.specs.Cmp.{IsEquivalence}
@@ -8,7 +8,6 @@ use Rattle.std.specs.HashMap as hash
 use Rattle.std.proofs.lemmas.Bool.{both_ways, cases_Bool, and_parts, and_from, or_cases, ltb-true, leb-true, eq-eqb}
 use Rattle.std.proofs.lemmas.Cmp.{eq_by_cmp_equiv}
 use Rattle.std.proofs.lemmas.Map.Views.{lookup-from_Contains}
-use Rattle.std.proofs.lemmas.List.Elements.{All-head, All-tail}
 use Rattle.std.proofs.lemmas.List.Folds.{sum_by-zero}
 use Rattle.ss_base.specs.declared.ids.ManifestId.{ManifestId}
 use Rattle.ss_base.specs.declared.ids.Standing.{Standing}
@@ -25,11 +24,6 @@ use Rattle.champion_choice.proofs.ListLaws.{remaining_in}
 use Rattle.champion_choice.proofs.BestLaws.{IsBestOf}
 
 -- ---- lists
-
-pub in_all : {X : Type 0} (P : X → Type 0) (x : X) (xs : List X) → All P xs → In x xs → P x
-in_all P x [] all h = absurd h
-in_all P x (y ∷ ys) all (inl same) = subst P same (All-head P y ys all)
-in_all P x (y ∷ ys) all (inr later) = in_all P x ys (All-tail P y ys all) later
 
 all_from : {X : Type 0} (p : X → Bool) (xs : List X) → ((x : X) → In x xs → p x ≡ true) → list_all p xs ≡ true
 all_from p [] each = refl

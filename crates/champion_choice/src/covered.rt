@@ -1,5 +1,5 @@
 // Which hooks are covered.
-ghost use Rattle.std.specs.Prelude.{◌≡◌, ℕ, ◌-◌, ◌^◌, ◌<◌, All, length, OnOk, IfOk};
+ghost use Rattle.std.specs.Prelude.{◌≡◌, ℕ, ◌-◌, ◌^◌, ◌<◌, ◌||◌, All, length, OnOk, IfOk};
 ghost use Rattle.ss_base.specs.declared.ids.ManifestId.{ManifestId as Id};
 ghost use Rattle.ss_base.specs.Ids.{same_manifest};
 ghost use Rattle.ss_base.specs.Champions.{stands_in, hooks_covered};
@@ -7,9 +7,11 @@ ghost use Rattle.champion_choice.specs.Scores.{hooks_at, stamp_at, StandsOnce};
 ghost use Rattle.champion_choice.specs.Lists.{standings, left, remaining, marked, covered_by, HasAddedList, IsScored};
 
 use crate::score::{Score, add_one, lower};
+use fnv_hash::FnvMap;
 use ss_base::{ManifestId, Memory, Standing};
 use std::alloc::Global;
 use std::collections::HashMap;
+use std::hash::BuildHasherDefault;
 
 fn same_manifest(a: ManifestId, b: ManifestId) -> bool
     ensures { result ≡ same_manifest a b }
@@ -25,7 +27,7 @@ pub(crate) fn stands_in(id: ManifestId, stood: &[Standing]) -> bool
 }
 
 // Counts one hook more for each manifest in its list.
-fn add_list(scores: &mut HashMap<ManifestId, Score>, stood: &[Standing]) -> Result<(), Memory>
+fn add_list(scores: &mut FnvMap<ManifestId, Score>, stood: &[Standing]) -> Result<(), Memory>
     requires once { StandsOnce stood.now }
     requires room { (q : Id) → hooks_at scores.old q < 2 ^ 64 - 1 }
     ensures { OnOk result (HasAddedList scores.old scores.new stood.now) }
@@ -36,15 +38,28 @@ fn add_list(scores: &mut HashMap<ManifestId, Score>, stood: &[Standing]) -> Resu
     Ok(())
 }
 
+// There are at most so many scores.
+fn most_scores(lists: &[Vec<Standing>]) -> usize {
+    let mut most = 0usize;
+    for stood in lists {
+        most = most.saturating_add(stood.len());
+    }
+    most
+}
+
 // The scores by all of the lists.
 pub(crate) fn scores_of(
     alloc: Global,
     lists: &[Vec<Standing>],
-) -> Result<HashMap<ManifestId, Score>, Memory>
+) -> Result<FnvMap<ManifestId, Score>, Memory>
     requires { All StandsOnce (standings lists.now) }
     ensures { IfOk result (λ scores. IsScored scores (standings lists.now)) }
 {
-    let mut scores = HashMap::new(alloc);
+    let mut scores = HashMap::with_capacity_and_hasher(
+        alloc,
+        most_scores(lists),
+        BuildHasherDefault::new(),
+    )?;
     for stood in lists {
         add_list(&mut scores, stood.as_slice())?;
     }
@@ -53,7 +68,7 @@ pub(crate) fn scores_of(
 
 // Lowers the scores of what stands at one hook, where it is uncovered and the manifest stands there.
 fn lower_hook(
-    scores: &mut HashMap<ManifestId, Score>,
+    scores: &mut FnvMap<ManifestId, Score>,
     stood: &[Standing],
     covered: bool,
     id: ManifestId,
@@ -73,7 +88,7 @@ fn lower_hook(
 
 // Lowers the scores of what stands at the uncovered hooks at which the manifest stands.
 pub(crate) fn lower_at(
-    scores: &mut HashMap<ManifestId, Score>,
+    scores: &mut FnvMap<ManifestId, Score>,
     lists: &[Vec<Standing>],
     covered: &[bool],
     id: ManifestId,
@@ -88,13 +103,20 @@ pub(crate) fn lower_at(
     }
 }
 
+// Whether the hook is covered, or the manifest stands there.
+fn is_covered(covered: bool, id: ManifestId, stood: &[Standing]) -> bool
+    ensures { result ≡ (covered || stands_in id stood.now) }
+{
+    covered || stands_in(id, stood)
+}
+
 // Marks the hooks at which the manifest stands as covered.
 pub(crate) fn mark(covered: &mut [bool], lists: &[Vec<Standing>], id: ManifestId)
     requires { length covered.old ≡ length lists.now }
     ensures { covered.new ≡ marked id (standings lists.now) covered.old }
 {
     for (i, stood) in lists.iter().enumerate() {
-        let stands = stands_in(id, stood.as_slice());
-        covered[i] |= stands;
+        let now = is_covered(covered[i], id, stood.as_slice());
+        covered[i] = now;
     }
 }

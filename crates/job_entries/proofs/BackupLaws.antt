@@ -26,7 +26,8 @@ use Rattle.history_calls.specs.Tokens.{IdleView, OpenView, ChosenView}
 use Rattle.history_calls.specs.OpenAt.{IsOpenAt}
 use Rattle.history_calls.specs.SessionSteps.{HasNotBegun, HasAborted}
 use Rattle.history_calls.proofs.TurnLaws.{begun_open}
-use Rattle.segment_store.specs.Storing.{Progress}
+use Rattle.segment_store.specs.Loads.{Entries}
+use Rattle.session.specs.Stores.{Progress}
 use Rattle.session.specs.Causes.{of_input, of_depot, of_begin, of_point, of_next, of_load}
 use Rattle.session.specs.Split.{HasSplit, HasGivenAll}
 use Rattle.session.specs.Stops.{NotStoredFor, HasGivenUpChosen, HasGivenUp}
@@ -81,7 +82,7 @@ later_is fault cause is later = subst IsLater (sym is) later
 later_store : (chunks : List (List ℕ)) (choice : Choice) (room : ℕ) (before after : Progress) (fault : BackupFault) → NotStoredFor chunks choice room before after fault → IsLater fault
 later_store chunks choice room before after fault (not_tried is same) = later_is fault Memory is tt
 later_store chunks choice room before after fault (not_loaded cause is same at) = later_is fault (of_load cause) is (later_load cause)
-later_store chunks choice room before after fault (not_stored manifests cause is loaded failed) = later_is fault (of_depot cause) is (later_depot cause)
+later_store chunks choice room before after fault (not_stored manifests cause is loaded caches failed) = later_is fault (of_depot cause) is (later_depot cause)
 
 module _ (others : List Entry → Type 0) (standings champions : ℕ) (n : Numbers) (author session : ℕ) where
   -- How a session is given up behind its pairs: perhaps a Choose, and an Abort.
@@ -94,7 +95,7 @@ module _ (others : List Entry → Type 0) (standings champions : ℕ) (n : Numbe
     adds : AddsPoints others author seen after.seen (choice ++ Abort session containers texts ∷ [])
     later : IsLater fault
 
-  module _ (chunks : List (List ℕ)) (room : ℕ) (chosen : ChosenView) (progress : Progress) (after : IdleView) (shelf : ShelfView) (fault : BackupFault) where
+  module _ (chunks : List (List ℕ)) (room : ℕ) (chosen : ChosenView) (progress : Progress) (after : IdleView) (shelf : ShelfView) (cache : Entries) (fault : BackupFault) where
     -- behind a choice
     record EndsChosen : Type 0 where
       same_author : after.author ≡ author
@@ -103,7 +104,7 @@ module _ (others : List Entry → Type 0) (standings champions : ℕ) (n : Numbe
       adds : AddsPoints others author chosen.seen after.seen (Abort session containers texts ∷ [])
       later : IsLater fault
 
-    ends-chosen : chosen.author ≡ author → chosen.session ≡ session → HasGivenUpChosen others standings champions chunks room chosen progress after shelf fault → EndsChosen
+    ends-chosen : chosen.author ≡ author → chosen.session ≡ session → HasGivenUpChosen others standings champions chunks room chosen progress after shelf cache fault → EndsChosen
     ends-chosen same_author same_session (unstored last same not aborted) =
         let ends = abort_chosen-adds others standings champions author session chosen last.end.containers last.texts after same_author same_session aborted in
         record { same_author = ends.0; containers = last.end.containers; texts = last.texts; adds = ends.1; later = later_store chunks chosen.choice room progress last fault not }
@@ -120,9 +121,9 @@ module _ (others : List Entry → Type 0) (standings champions : ℕ) (n : Numbe
           later = later_is fault (of_point cause) is (later_point cause);
         }
 
-  module _ (chunks : List (List ℕ)) (seen : StateView) (progress : Progress) (is_n : numbers_of seen.profile ≡ n) (after : IdleView) (shelf : ShelfView) (fault : BackupFault) where
+  module _ (chunks : List (List ℕ)) (seen : StateView) (progress : Progress) (is_n : numbers_of seen.profile ≡ n) (after : IdleView) (shelf : ShelfView) (cache : Entries) (fault : BackupFault) where
     -- in a segment
-    gives-up : HasGivenUp others standings champions chunks (record { caller = open_at author session seen; progress = progress }) after shelf fault → GivesUp (chunks ∷ []) seen after fault
+    gives-up : HasGivenUp others standings champions chunks (record { caller = open_at author session seen; progress = progress }) after shelf cache fault → GivesUp (chunks ∷ []) seen after fault
     gives-up (unsampled is same aborted) =
         let ends = abort-adds others standings champions author session (open_at author session seen) progress.end.containers progress.texts after refl refl aborted in
         record { same_author = ends.0; choice = []; choice_of = none_chosen chunks refl refl; containers = progress.end.containers; texts = progress.texts; adds = ends.1; later = later_is fault Memory is tt }
@@ -142,7 +143,7 @@ module _ (others : List Entry → Type 0) (standings champions : ℕ) (n : Numbe
     gives-up (behind chosen chooses up) =
         let hooks = segment_hooks (numbers_of seen.profile) chunks in
         let chose = choose-adds others standings champions (open_at author session seen) hooks chosen chooses in
-        let ends = ends-chosen chunks (numbers_of seen.profile).room chosen progress after shelf fault chooses.author chooses.session up in
+        let ends = ends-chosen chunks (numbers_of seen.profile).room chosen progress after shelf cache fault chooses.author chooses.session up in
         let choice : List Point = Choose session (segment_hooks n chunks) chose.0 ∷ [] in
         record {
           same_author = ends.same_author;
@@ -165,13 +166,13 @@ module _ (others : List Entry → Type 0) (standings champions : ℕ) (n : Numbe
   -- ---- the whole session
 
   module _ (name : List ℕ) (source : SourceView) (before seen : StateView) (begun : AddsPoints others author before seen (Begin name (Some session) ∷ [])) (at : IsOpenAt author session None 0 0 (past_of seen)) (is_n : numbers_of seen.profile ≡ n) where
-    finished-stores : (last : SourceView) (shelf : ShelfView) (after : IdleView) (shelf' : ShelfView) → HasFinishedStream others standings champions (open_at author session seen) source last shelf after shelf'
+    finished-stores : (last : SourceView) (shelf : ShelfView) (cache : Entries) (after : IdleView) (shelf' : ShelfView) (cache' : Entries) → HasFinishedStream others standings champions (open_at author session seen) source last shelf cache after shelf' cache'
         → (after.author ≡ author) × StoresStream others author n source name before after.seen session
-    finished-stores last shelf after shelf' has =
+    finished-stores last shelf cache after shelf' cache' has =
         let segments = has.stored.segments in
         let end = has.last.caller in
         let containers = has.last.progress.end.containers in
-        let pairs = stored_all-adds others standings champions n author session segments 0 0 seen (record { shelf = shelf; end = record { session = session; containers = 0; used = 0 }; texts = 0 }) has.last is_n has.stored.stored at in
+        let pairs = stored_all-adds others standings champions n author session segments 0 0 seen (record { shelf = shelf; end = record { session = session; containers = 0; used = 0 }; texts = 0; cache = cache }) has.last is_n has.stored.stored at in
         let finishes = finish-adds others standings champions author session end containers after pairs.same_author pairs.same_session has.finished in
         let ends = adds-then others author seen end.seen after.seen pairs.pairs (Finish session containers ∷ []) pairs.adds finishes.1 in (
           finishes.0,
@@ -218,26 +219,26 @@ module _ (others : List Entry → Type 0) (standings champions : ℕ) (n : Numbe
           };
         }
 
-    stopped-fails : (last : SourceView) (shelf : ShelfView) (after : IdleView) (shelf' : ShelfView) (fault : BackupFault)
-        → HasFailedStream others standings champions (open_at author session seen) source last shelf after shelf' fault → FailsLater after fault
-    stopped-fails last shelf after shelf' fault (unread is same_source same_shelf aborted) =
+    stopped-fails : (last : SourceView) (shelf : ShelfView) (cache : Entries) (after : IdleView) (shelf' : ShelfView) (cache' : Entries) (fault : BackupFault)
+        → HasFailedStream others standings champions (open_at author session seen) source last shelf cache after shelf' cache' fault → FailsLater after fault
+    stopped-fails last shelf cache after shelf' cache' fault (unread is same_source same_shelf aborted) =
         fails-later [] [] source (nothing_read n) (open_at author session seen) after fault (split_start n source)
         (record { same_author = refl; same_session = refl; same_numbers = is_n; pairs = []; pairs_of = no_pairs 0; adds = adds-none others author seen })
         (gives-up_unread seen 0 0 after fault (later_is fault Memory is tt) aborted)
-    stopped-fails last shelf after shelf' fault (stopped (reading segments now work end cause is same come ends aborted)) =
-        let pairs = stored_all-adds others standings champions n author session segments 0 0 seen (record { shelf = shelf; end = record { session = session; containers = 0; used = 0 }; texts = 0 }) end is_n come.stored at in
+    stopped-fails last shelf cache after shelf' cache' fault (stopped (reading segments now work end cause is same come ends aborted)) =
+        let pairs = stored_all-adds others standings champions n author session segments 0 0 seen (record { shelf = shelf; end = record { session = session; containers = 0; used = 0 }; texts = 0; cache = cache }) end is_n come.stored at in
         fails-later segments [] now work end.caller after fault
         (subst (λ (m : Numbers). HasSplit m source now work (segments ++ [])) is_n (subst (λ (all : List (List (List ℕ))). HasSplit (numbers_of seen.profile) source now work all) (sym (append-nil segments)) come.split))
         pairs
         (gives-up_unread end.caller.seen end.progress.end.containers end.progress.texts after fault (later_is fault (of_next cause) is (later_next cause))
         (subst (λ (t : OpenView). HasAborted others standings champions t end.progress.end.containers end.progress.texts after) (is_open_at author session end.caller pairs.same_author pairs.same_session) aborted))
-    stopped-fails last shelf after shelf' fault (stopped (storing segments chunks work end split all up)) =
-        let pairs = stored_all-adds others standings champions n author session segments 0 0 seen (record { shelf = shelf; end = record { session = session; containers = 0; used = 0 }; texts = 0 }) end is_n all at in
+    stopped-fails last shelf cache after shelf' cache' fault (stopped (storing segments chunks work end split all up)) =
+        let pairs = stored_all-adds others standings champions n author session segments 0 0 seen (record { shelf = shelf; end = record { session = session; containers = 0; used = 0 }; texts = 0; cache = cache }) end is_n all at in
         fails-later segments (chunks ∷ []) last work end.caller after fault
         (subst (λ (m : Numbers). HasSplit m source last work (segments ++ chunks ∷ [])) is_n split)
         pairs
-        (gives-up chunks end.caller.seen end.progress pairs.same_numbers after shelf' fault
-        (subst (λ (t : OpenView). HasGivenUp others standings champions chunks (record { caller = t; progress = end.progress }) after shelf' fault) (is_open_at author session end.caller pairs.same_author pairs.same_session) up))
+        (gives-up chunks end.caller.seen end.progress pairs.same_numbers after shelf' cache' fault
+        (subst (λ (t : OpenView). HasGivenUp others standings champions chunks (record { caller = t; progress = end.progress }) after shelf' cache' fault) (is_open_at author session end.caller pairs.same_author pairs.same_session) up))
 
 -- ---- a backup
 
@@ -306,23 +307,23 @@ module _ (others : List Entry → Type 0) (standings champions : ℕ) (files : S
     numbers_are : numbers_of started.caller.seen.profile ≡ numbers_of before.seen.profile
     numbers_are = ap numbers_of (same_profile others before.author before.seen started.caller.seen (Begin name (Some started.caller.session) ∷ []) begun_adds)
 
-    streamed-stores : (depot : ShelfView) (after : IdleView) (depot' : ShelfView) → HasStreamed others standings champions started.caller (input_view files input) depot after depot'
+    streamed-stores : (depot : ShelfView) (cache : Entries) (after : IdleView) (depot' : ShelfView) (cache' : Entries) → HasStreamed others standings champions started.caller (input_view files input) depot cache after depot' cache'
         → Stores after (Ok started.caller.session)
-    streamed-stores depot after depot' streamed =
-        finished-stores others standings champions (numbers_of before.seen.profile) before.author started.caller.session name (input_view files input) before.seen started.caller.seen begun_adds begun_at numbers_are streamed.last depot after depot'
-        (subst (λ (t : OpenView). HasFinishedStream others standings champions t (input_view files input) streamed.last depot after depot') caller_is streamed.finished)
+    streamed-stores depot cache after depot' cache' streamed =
+        finished-stores others standings champions (numbers_of before.seen.profile) before.author started.caller.session name (input_view files input) before.seen started.caller.seen begun_adds begun_at numbers_are streamed.last depot cache after depot' cache'
+        (subst (λ (t : OpenView). HasFinishedStream others standings champions t (input_view files input) streamed.last depot cache after depot' cache') caller_is streamed.finished)
 
-    not_streamed-stores : (depot : ShelfView) (after : IdleView) (depot' : ShelfView) (fault : BackupFault) → HasNotStreamed others standings champions started.caller (input_view files input) depot after depot' fault
+    not_streamed-stores : (depot : ShelfView) (cache : Entries) (after : IdleView) (depot' : ShelfView) (cache' : Entries) (fault : BackupFault) → HasNotStreamed others standings champions started.caller (input_view files input) depot cache after depot' cache' fault
         → Stores after (Err fault)
-    not_streamed-stores depot after depot' fault streamed =
+    not_streamed-stores depot cache after depot' cache' fault streamed =
         let fails =
-        stopped-fails others standings champions (numbers_of before.seen.profile) before.author started.caller.session name (input_view files input) before.seen started.caller.seen begun_adds begun_at numbers_are streamed.last depot after depot' fault
-        (subst (λ (t : OpenView). HasFailedStream others standings champions t (input_view files input) streamed.last depot after depot' fault) caller_is streamed.failed) in
+        stopped-fails others standings champions (numbers_of before.seen.profile) before.author started.caller.session name (input_view files input) before.seen started.caller.seen begun_adds begun_at numbers_are streamed.last depot cache after depot' cache' fault
+        (subst (λ (t : OpenView). HasFailedStream others standings champions t (input_view files input) streamed.last depot cache after depot' cache' fault) caller_is streamed.failed) in
         (fails.same_author, stores-later others before.author (numbers_of before.seen.profile) (input_view files input) name before.seen after.seen fault fails.later fails.front)
 
-  pub backup-stores : (depot : ShelfView) (after : IdleView) (depot' : ShelfView) (result : Result ℕ BackupFault)
-      → BackupAnswer others standings champions files input name before depot after depot' result → Stores after result
-  backup-stores depot after depot' (Ok session) has =
-      subst (λ (s : ℕ). Stores after (Ok s)) (sym has.session_is) (streamed-stores has.started depot after depot' has.streamed)
-  backup-stores depot after depot' (Err fault) (not_started same has) = not_started-stores after fault has
-  backup-stores depot after depot' (Err fault) (given_up started streamed) = not_streamed-stores started depot after depot' fault streamed
+  pub backup-stores : (depot : ShelfView) (cache : Entries) (after : IdleView) (depot' : ShelfView) (cache' : Entries) (result : Result ℕ BackupFault)
+      → BackupAnswer others standings champions files input name before depot cache after depot' cache' result → Stores after result
+  backup-stores depot cache after depot' cache' (Ok session) has =
+      subst (λ (s : ℕ). Stores after (Ok s)) (sym has.session_is) (streamed-stores has.started depot cache after depot' cache' has.streamed)
+  backup-stores depot cache after depot' cache' (Err fault) (not_started same has) = not_started-stores after fault has
+  backup-stores depot cache after depot' cache' (Err fault) (given_up started streamed) = not_streamed-stores started depot cache after depot' cache' fault streamed

@@ -15,8 +15,7 @@ use Rattle.history_calls.specs.Tokens.{OpenView, ChosenView}
 use Rattle.history_calls.specs.OpenAt.{IsOpenAt}
 use Rattle.history_calls.specs.SessionSteps.{HasCommitted}
 use Rattle.history_calls.proofs.TurnLaws.{open_at_turn, chosen_open, committed_open}
-use Rattle.segment_store.specs.Storing.{Progress}
-use Rattle.session.specs.Stores.{Reached, HasStored, HasStoredAll}
+use Rattle.session.specs.Stores.{Progress, Reached, HasStored, HasStoredAll}
 use Rattle.job_entries.specs.Interleaved.{AddsPoints}
 use Rattle.job_entries.specs.Pairs.{commit_of, segment_hooks, IsOfSegment, HasPairsOf}
 use Rattle.job_entries.specs.Pairs.HasPairsOf.{none, pair}

@@ -8,6 +8,7 @@ use Rattle.store_core.specs.View.{StateView}
 use Rattle.store_core.specs.Answers.{DeleteAnswer, StatAnswer}
 use Rattle.depot.specs.declared.fault.BackupFault.{BackupFault}
 use Rattle.depot.specs.declared.fault.RestoreFault.{RestoreFault}
+use Rattle.segment_store.specs.Loads.{Entries}
 use Rattle.session.specs.Backup.{HasRunAlone}
 use Rattle.restore.specs.Copies.{Shelves}
 use Rattle.restore.specs.Restores.{StateCalls, RestoreAnswer, RestoreCause, RestoreCounts, FilesAnswer}
@@ -22,11 +23,11 @@ abbrev pub answer_of : {T E : Type 0} → (E → JobAnswer) → Result T E → J
 answer_of refused (Ok done) = job.Ok
 answer_of refused (Err fault) = refused fault
 
--- a backup of a file under a name
-pub record BackupDone (standings champions author : ℕ) (input name : List ℕ) (old new : StateView) (before after : Shelves) (answer : JobAnswer) : Type 0 where
+-- a backup of a file under a name, with a cache before and after
+pub record BackupDone (standings champions author : ℕ) (input name : List ℕ) (old new : StateView) (before after : Shelves) (cache cache' : Entries) (answer : JobAnswer) : Type 0 where
   pub result : Result ℕ BackupFault
   pub answer_is : answer ≡ answer_of job.Backup result
-  pub done : HasRunAlone standings champions author before.files after.files input name old new before.depot after.depot result
+  pub done : HasRunAlone standings champions author before.files after.files input name old new before.depot after.depot cache cache' result
 
 -- a restore of a stream to a file
 pub record RestoreDone (author : ℕ) (name output : List ℕ) (old new : StateView) (before after : Shelves) (answer : JobAnswer) : Type 0 where
@@ -51,14 +52,19 @@ pub record StatDone (author : ℕ) (old new : StateView) (answer : JobAnswer) : 
   pub done : StatAnswer old new author result
 
 -- a job of an author
-abbrev pub JobDone : ℕ → ℕ → ℕ → JobKind → StateView → StateView → Shelves → Shelves → JobAnswer → Type 0
-JobDone standings champions author (Backup input name) old new before after answer = BackupDone standings champions author input name old new before after answer
-JobDone standings champions author (Restore name output) old new before after answer = RestoreDone author name output old new before after answer
-JobDone standings champions author (Delete name) old new before after answer = DeleteDone author name old new answer × (after ≡ before)
-JobDone standings champions author Reclaim old new before after answer = ReclaimDone author old new before.depot after.depot answer × (after.files ≡ before.files)
-JobDone standings champions author Stat old new before after answer = StatDone author old new answer × (after ≡ before)
+abbrev pub JobDone : ℕ → ℕ → ℕ → JobKind → StateView → StateView → Shelves → Shelves → Entries → Entries → JobAnswer → Type 0
+JobDone standings champions author (Backup input name) old new before after cache cache' answer = BackupDone standings champions author input name old new before after cache cache' answer
+JobDone standings champions author (Restore name output) old new before after cache cache' answer = RestoreDone author name output old new before after answer
+JobDone standings champions author (Delete name) old new before after cache cache' answer = DeleteDone author name old new answer × (after ≡ before)
+JobDone standings champions author Reclaim old new before after cache cache' answer = ReclaimDone author old new before.depot after.depot answer × (after.files ≡ before.files)
+JobDone standings champions author Stat old new before after cache cache' answer = StatDone author old new answer × (after ≡ before)
+
+-- only a backup changes the cache
+abbrev pub KeepsCache : JobKind → Entries → Entries → Type 0
+KeepsCache (Backup input name) cache cache' = Unit {0}
+KeepsCache kind cache cache' = cache' ≡ cache
 
 -- the same of a command, which reclaims until nothing is left to be erased
-abbrev pub CommandDone : ℕ → ℕ → ℕ → JobKind → StateView → StateView → Shelves → Shelves → JobAnswer → Type 0
-CommandDone standings champions author Reclaim old new before after answer = ReclaimsDone author old new before.depot after.depot answer × (after.files ≡ before.files)
-CommandDone standings champions author kind old new before after answer = JobDone standings champions author kind old new before after answer
+abbrev pub CommandDone : ℕ → ℕ → ℕ → JobKind → StateView → StateView → Shelves → Shelves → Entries → Entries → JobAnswer → Type 0
+CommandDone standings champions author Reclaim old new before after cache cache' answer = ReclaimsDone author old new before.depot after.depot answer × (after.files ≡ before.files)
+CommandDone standings champions author kind old new before after cache cache' answer = JobDone standings champions author kind old new before after cache cache' answer

@@ -4,6 +4,7 @@ ghost use Rattle.job_run.specs.Jobs.{BackupDone};
 
 use depot::Depot;
 use job_script::PathText;
+use manifest_cache::ManifestCache;
 use outside::Shelf;
 use report::JobAnswer;
 use session::backup_solo;
@@ -19,10 +20,12 @@ pub(crate) fn run_backup<const L: usize, const M: usize, F: Shelf, K: Shelf>(
     name: StreamName,
     files: &mut F,
     depot: &mut K,
+    cache: &mut ManifestCache,
 ) -> JobAnswer
     ensures { BackupDone L M author input.now name state.old state.new
         (record { files = shelf_view ⟦<F as Shelf>⟧ files.old; depot = shelf_view ⟦<K as Shelf>⟧ depot.old })
-        (record { files = shelf_view ⟦<F as Shelf>⟧ files.new; depot = shelf_view ⟦<K as Shelf>⟧ depot.new }) result }
+        (record { files = shelf_view ⟦<F as Shelf>⟧ files.new; depot = shelf_view ⟦<K as Shelf>⟧ depot.new })
+        cache.old.entries cache.new.entries result }
 {
     let mut depot = Depot::over(depot);
     match backup_solo(
@@ -33,6 +36,7 @@ pub(crate) fn run_backup<const L: usize, const M: usize, F: Shelf, K: Shelf>(
         input.as_str(),
         name,
         &mut depot,
+        cache,
     ) {
         Ok(_) => JobAnswer::Ok,
         Err(fault) => JobAnswer::Backup(fault),

@@ -1,5 +1,5 @@
 // More entries of a journal.
-ghost use Rattle.std.specs.Prelude.{◌≡◌, ◌≤◌, [], All, IfOk, IsOk, OnOk, MatchResult};
+ghost use Rattle.std.specs.Prelude.{◌≡◌, ◌≤◌, [], All, IfOk, IsOk, MatchResult};
 ghost use Rattle.std.specs.List.{AllByRecursion};
 ghost use Rattle.outside.specs.Shelf.{AppendLeaves};
 ghost use Rattle.journal_entry.specs.Bounds.{IsEntry, IsWithinBounds};
@@ -9,6 +9,7 @@ ghost use Rattle.journal_file.specs.Header.{journal_name};
 ghost use Rattle.journal_file.specs.Adding.{with_entries, with_write};
 
 use crate::AppendFault;
+use crate::fitting::entries_fit;
 use journal_entry::{Entry, encode_entry};
 use outside::Shelf;
 use ss_base::Memory;
@@ -26,8 +27,8 @@ pub fn append<S: Shelf>(alloc: Global, shelf: &mut S, entries: &[Entry]) -> Resu
         (λ _. S.wrote shelf.new ≡ S.wrote shelf.old) }
     ensures none { entries.now ≡ [] → IsOk result × (shelf.new ≡ shelf.old) }
 
-    // What was added can be read.
-    ensures entries { OnOk result (AllByRecursion IsEntry entries.now) }
+    // Each of them can be read from its text, whatever the answer.
+    ensures entries { AllByRecursion IsEntry entries.now }
 
     ensures gave { S.gave shelf.new ≡ S.gave shelf.old }
     ensures erased { S.erased shelf.new ≡ S.erased shelf.old }
@@ -35,6 +36,7 @@ pub fn append<S: Shelf>(alloc: Global, shelf: &mut S, entries: &[Entry]) -> Resu
     ensures later { S.faults shelf.old ≤ S.faults shelf.new }
     ensures count { AppendCount result (S.faults shelf.old) (S.faults shelf.new) }
 {
+    entries_fit(entries);
     if entries.is_empty() {
         return Ok(());
     }
@@ -46,7 +48,6 @@ pub fn append<S: Shelf>(alloc: Global, shelf: &mut S, entries: &[Entry]) -> Resu
 fn text_of(alloc: Global, entries: &[Entry]) -> Result<Vec<u8>, Memory>
     requires { All IsWithinBounds entries.now }
     ensures text { IfOk result (λ text. text.items ≡ entries_text entries.now) }
-    ensures entries { OnOk result (AllByRecursion IsEntry entries.now) }
 {
     let mut text = Vec::new(alloc);
     for entry in entries {

@@ -4,6 +4,7 @@
 mod appending;
 mod creating;
 mod fault;
+mod fitting;
 mod found;
 mod header;
 mod laws;

@@ -1,5 +1,5 @@
 -- What is awaited as the numbers change, and why a walk may pass the other sessions.
-use Rattle.std.proofs.Common.{◌≡◌, refl, sym, ◌∙◌, ap, ℕ, zero, suc, ◌+◌, ◌-◌, ◌<◌, ◌≤◌, List, [], ◌∷◌, ◌++◌, take, drop, filter, length, slice_get, slice_set, Bool, true, false, not, ◌&&◌, eqb, Option, Some, None, MatchOption, arith}
+use Rattle.std.proofs.Common.{◌≡◌, refl, sym, ◌∙◌, ap, ℕ, zero, suc, ◌+◌, ◌-◌, ◌<◌, ◌≤◌, List, [], ◌∷◌, ◌++◌, take, drop, filter, length, slice_get, Bool, true, false, not, ◌&&◌, eqb, Option, Some, None, MatchOption, arith}
 use Rattle.std.proofs.lemmas.Bool.{false≢true}
 use Rattle.std.proofs.lemmas.Bool.Decides.{nat_tests}
 use Rattle.std.proofs.lemmas.List.{drop_all, take_all, append-nil, length-take}
@@ -101,19 +101,6 @@ not_idle false false m n grows le was = grind (arith, nat_tests, was, le)
 
 pub calm : (old new : Counted) (q : Object) → (is_gone old q ≡ true → is_gone new q ≡ true) → number old q ≤ number new q → is_idle old q ≡ false → is_idle new q ≡ false
 calm old new q = not_idle (is_gone old q) (is_gone new q) (number old q) (number new q)
-
-get_set : (l : List (Option Ended)) (k s : ℕ) (v : Option Ended) → eqb s k ≡ false → slice_get (slice_set l k v) s ≡ slice_get l s
-get_set [] k s v apart = refl
-get_set (x ∷ l) zero zero v apart = absurd (false≢true (sym apart))
-get_set (x ∷ l) zero (suc s) v apart = refl
-get_set (x ∷ l) (suc k) zero v apart = refl
-get_set (x ∷ l) (suc k) (suc s) v apart = get_set l k s v (grind (arith, nat_tests, apart))
-
-get_opened : (l : List (Option Ended)) (s : ℕ) → closed (slice_get (l ++ None ∷ []) s) ≡ closed (slice_get l s)
-get_opened [] zero = refl
-get_opened [] (suc s) = refl
-get_opened (x ∷ l) zero = refl
-get_opened (x ∷ l) (suc s) = get_opened l s
 
 -- the sessions before the next awaited one are quiet, or all from there on
 abbrev pub NextIs : Kind → Counted → ℕ → Option ℕ → Type 0

@@ -11,9 +11,11 @@ ghost use Rattle.pins_counts.specs.Waiting.{ended_at, objects_at, IsQuiet};
 use crate::fact::{Fact, fact_of, lower, make_fact, raise};
 use crate::kind::Kind;
 use crate::run::{after_gone, set_gone};
+use fnv_hash::FnvMap;
 use ss_base::{Ended, Memory, Object};
 use std::alloc::Global;
 use std::collections::HashMap;
+use std::hash::BuildHasherDefault;
 use std::marker::Model;
 
 const MAX_SESSIONS: usize = 4_294_967_294;
@@ -23,7 +25,7 @@ const MAX_SESSIONS: usize = 4_294_967_294;
 pub(crate) struct Tally {
     sessions: Vec<Option<Ended>>,
     room: usize,
-    facts: HashMap<Object, Fact>,
+    facts: FnvMap<Object, Fact>,
 }
 
 impl Model for Tally {
@@ -48,7 +50,7 @@ impl Tally {
         Tally {
             sessions: Vec::new(alloc),
             room: 0,
-            facts: HashMap::new(alloc),
+            facts: HashMap::with_hasher(alloc, BuildHasherDefault::new()),
         }
     }
 

@@ -7,10 +7,12 @@ mod faults;
 mod laws;
 mod manifests;
 mod output;
+mod shared;
 mod solo;
 mod stream;
 
 pub use laws::{damage_of_a_restore, front_of_a_restore, output_of_a_restore};
+pub use shared::restore_shared;
 pub use solo::restore_solo;
 pub use stream::restore_by;
 

@@ -1,5 +1,6 @@
 -- The answers of a backup, where nothing keeps it off.
 use Rattle.std.proofs.Common.{◌≡◌, ℕ, zero, suc, ◌-◌, ◌<◌, ◌≤◌, Bool, true, false, leb, cond, ◌⊎◌, List, [], ◌∷◌, ◌++◌, length, take, drop, Option, None, Some, refl, sym, ap, subst, inl, inr, arith, length-append}
+use Rattle.segment_store.specs.Loads.{Entries}
 use Rattle.std.specs.Prelude.{IfSome, MatchOption, unwrap_or, Result, Ok, Err}
 use Rattle.std.specs.FinMap.{contains_key}
 use Rattle.std.specs.Io.KnownBytes.{Consumes}
@@ -45,7 +46,6 @@ use Rattle.depot.specs.declared.fault.LoadFault.{LoadFault}
 use Rattle.depot.specs.declared.fault.LoadFault.TheVariants as load
 use Rattle.depot.specs.declared.fault.BackupFault.{BackupFault}
 use Rattle.depot.specs.declared.fault.BackupFault.TheVariants as backup
-use Rattle.segment_store.specs.Storing.{Progress}
 use Rattle.session.specs.Backup.{input_view, HasNotStarted, BackupAnswer}
 use Rattle.session.specs.Backup.HasNotStarted.{unasked, absent, unbegun}
 use Rattle.session.specs.Backup.HasNotBackedUp.{not_started, given_up}
@@ -58,7 +58,7 @@ use Rattle.session.specs.Stops.{NotStoredFor, HasGivenUpChosen, HasGivenUp}
 use Rattle.session.specs.Stops.NotStoredFor.{not_tried, not_loaded, not_stored}
 use Rattle.session.specs.Stops.HasGivenUpChosen.{unstored, uncommitted}
 use Rattle.session.specs.Stops.HasGivenUp.{unsampled, unchosen, behind}
-use Rattle.session.specs.Stores.{Reached, hooks_for}
+use Rattle.session.specs.Stores.{Reached, hooks_for, Progress}
 use Rattle.backed_up_streams.proofs.AloneLaws.{alone, at_seen}
 use Rattle.job_script.specs.declared.job.JobKind.TheVariants.{Backup}
 use Rattle.report.specs.declared.answer.JobAnswer.TheVariants as job
@@ -180,7 +180,7 @@ module _ (old : StateView) (author : ℕ) (input asked : List ℕ) (files : Obje
   not_stored_says : (chunks : List (List ℕ)) (choice : Choice) (room : ℕ) (from to : Progress) (fault : BackupFault) → NotStoredFor chunks choice room from to fault → Says fault
   not_stored_says chunks choice room from to fault (not_tried is same) = subst Says (sym is) tt
   not_stored_says chunks choice room from to fault (not_loaded cause is same stops) = subst Says (sym is) (by_load cause)
-  not_stored_says chunks choice room from to fault (not_stored manifests why is loaded failed) = subst Says (sym is) (by_depot why)
+  not_stored_says chunks choice room from to fault (not_stored manifests why is loaded caches failed) = subst Says (sym is) (by_depot why)
 
   module _ (chunks : List (List ℕ)) (few : length chunks ≤ 4096) where
     few_pieces : length (pieces chunks) ≤ 4096
@@ -203,44 +203,44 @@ module _ (old : StateView) (author : ℕ) (input asked : List ℕ) (files : Obje
         given_up_full chosen.seen back.seen after.seen chosen.author (commit_entry chosen.seen chosen.author chosen.session stored).point back.author back.session containers texts closed tt light full adds
     by_commit chosen back stored containers texts add.Memory light refused ends_it = tt
 
-    behind_choice : (room : ℕ) (chosen : ChosenView) (progress : Progress) (depot : ShelfView) (fault : BackupFault) → HasGivenUpChosen alone 8 8 chunks room chosen progress after depot fault → Says fault
-    behind_choice room chosen progress depot fault (unstored last same why ends_it) = not_stored_says chunks chosen.choice room progress last fault why
-    behind_choice room chosen progress depot fault (uncommitted last stored written back cause same is stores refused ends_it) =
+    behind_choice : (room : ℕ) (chosen : ChosenView) (progress : Progress) (depot : ShelfView) (cache : Entries) (fault : BackupFault) → HasGivenUpChosen alone 8 8 chunks room chosen progress after depot cache fault → Says fault
+    behind_choice room chosen progress depot cache fault (unstored last same why ends_it) = not_stored_says chunks chosen.choice room progress last fault why
+    behind_choice room chosen progress depot cache fault (uncommitted last stored written back cause same is stores refused ends_it) =
         let are = stores.stored_is.stored_is.uses in
         let listed = uses-count _ stored.uses.items are in
         let placed = places-count chunks (located stores.manifests) progress.end room in
         subst Says (sym is) (by_commit chosen back stored last.end.containers last.texts cause (omega (arith, listed, placed, few_pieces)) refused ends_it)
 
-    in_segment : (from : Reached) (depot : ShelfView) (fault : BackupFault) → HasGivenUp alone 8 8 chunks from after depot fault → Says fault
-    in_segment from depot fault (unsampled is same ends_it) = subst Says (sym is) tt
-    in_segment from depot fault (unchosen back cause is same refused ends_it) =
+    in_segment : (from : Reached) (depot : ShelfView) (cache : Entries) (fault : BackupFault) → HasGivenUp alone 8 8 chunks from after depot cache fault → Says fault
+    in_segment from depot cache fault (unsampled is same ends_it) = subst Says (sym is) tt
+    in_segment from depot cache fault (unchosen back cause is same refused ends_it) =
         subst Says (sym is) (by_choose from.caller back from.progress.end.containers from.progress.texts cause refused ends_it)
-    in_segment from depot fault (behind chosen chooses gives) = behind_choice _ chosen from.progress depot fault gives
+    in_segment from depot cache fault (behind chosen chooses gives) = behind_choice _ chosen from.progress depot cache fault gives
 
   -- the whole answer
 
-  failed_says : (caller : OpenView) (last : SourceView) (depot depot' : ShelfView) (fault : BackupFault) → HasFailedStream alone 8 8 caller (input_view shelf input) last depot after depot' fault → Says fault
-  failed_says caller last depot depot' fault (unread is same_source same_shelf ends_it) = subst Says (sym is) tt
-  failed_says caller last depot depot' fault (stopped (reading segments_got middle work reached cause is same come ends_for ends_it)) =
+  failed_says : (caller : OpenView) (last : SourceView) (depot depot' : ShelfView) (cache cache' : Entries) (fault : BackupFault) → HasFailedStream alone 8 8 caller (input_view shelf input) last depot cache after depot' cache' fault → Says fault
+  failed_says caller last depot depot' cache cache' fault (unread is same_source same_shelf ends_it) = subst Says (sym is) tt
+  failed_says caller last depot depot' cache cache' fault (stopped (reading segments_got middle work reached cause is same come ends_for ends_it)) =
       subst Says (sym is) (by_next cause (λ long. too_long (numbers_of caller.seen.profile) middle last work segments_got come.split (subst (λ (c : NextFault). EndsFor c (numbers_of caller.seen.profile) (most_bytes - work.taken) work.bytes middle last) long ends_for)))
-  failed_says caller last depot depot' fault (stopped (storing segments_got chunks work reached split stored gives)) =
+  failed_says caller last depot depot' cache cache' fault (stopped (storing segments_got chunks work reached split stored gives)) =
       let n = numbers_of caller.seen.profile in
       let got = split.first [] (λ ended. refl) in
       let there = subst (In chunks) (sym got) (in_append_left chunks (segments_got ++ chunks ∷ []) _ (in_append_right chunks segments_got (chunks ∷ []) (inl refl))) in
-      in_segment chunks (few_chunks n _ chunks (AreSound-numbers_of caller.seen.profile) there) reached depot' fault gives
+      in_segment chunks (few_chunks n _ chunks (AreSound-numbers_of caller.seen.profile) there) reached depot' cache' fault gives
 
-  pub backup_says : (depot depot' : ShelfView) (fault : BackupFault) → BackupAnswer alone 8 8 shelf input asked before depot after depot' (Err fault) → Says fault
-  backup_says depot depot' fault (not_started same has) = not_begun fault has
-  backup_says depot depot' fault (given_up started streamed) = failed_says started.caller streamed.last depot depot' fault streamed.failed
+  pub backup_says : (depot depot' : ShelfView) (cache cache' : Entries) (fault : BackupFault) → BackupAnswer alone 8 8 shelf input asked before depot cache after depot' cache' (Err fault) → Says fault
+  backup_says depot depot' cache cache' fault (not_started same has) = not_begun fault has
+  backup_says depot depot' cache cache' fault (given_up started streamed) = failed_says started.caller streamed.last depot depot' cache cache' fault streamed.failed
 
-  pub backup_due : (depot depot' : ShelfView) (result : Result ℕ BackupFault) → IsNoFault result → BackupAnswer alone 8 8 shelf input asked before depot after depot' result → IsDue old after.seen files (answer_of job.Backup result) (Backup input asked)
-  backup_due depot depot' (Ok session) fine answer = tt
-  backup_due depot depot' (Err backup.Taken) fine answer = backup_says depot depot' backup.Taken answer
-  backup_due depot depot' (Err backup.NoInput) fine answer = backup_says depot depot' backup.NoInput answer
-  backup_due depot depot' (Err backup.TooLong) fine answer = backup_says depot depot' backup.TooLong answer
-  backup_due depot depot' (Err backup.Full) fine answer = backup_says depot depot' backup.Full answer
-  backup_due depot depot' (Err backup.Memory) fine answer = tt
-  backup_due depot depot' (Err backup.InputFault) fine answer = absurd fine
-  backup_due depot depot' (Err backup.DepotFault) fine answer = absurd fine
-  backup_due depot depot' (Err (backup.Damaged want got)) fine answer = absurd fine
-  backup_due depot depot' (Err (backup.Unlike text)) fine answer = absurd fine
+  pub backup_due : (depot depot' : ShelfView) (cache cache' : Entries) (result : Result ℕ BackupFault) → IsNoFault result → BackupAnswer alone 8 8 shelf input asked before depot cache after depot' cache' result → IsDue old after.seen files (answer_of job.Backup result) (Backup input asked)
+  backup_due depot depot' cache cache' (Ok session) fine answer = tt
+  backup_due depot depot' cache cache' (Err backup.Taken) fine answer = backup_says depot depot' cache cache' backup.Taken answer
+  backup_due depot depot' cache cache' (Err backup.NoInput) fine answer = backup_says depot depot' cache cache' backup.NoInput answer
+  backup_due depot depot' cache cache' (Err backup.TooLong) fine answer = backup_says depot depot' cache cache' backup.TooLong answer
+  backup_due depot depot' cache cache' (Err backup.Full) fine answer = backup_says depot depot' cache cache' backup.Full answer
+  backup_due depot depot' cache cache' (Err backup.Memory) fine answer = tt
+  backup_due depot depot' cache cache' (Err backup.InputFault) fine answer = absurd fine
+  backup_due depot depot' cache cache' (Err backup.DepotFault) fine answer = absurd fine
+  backup_due depot depot' cache cache' (Err (backup.Damaged want got)) fine answer = absurd fine
+  backup_due depot depot' cache cache' (Err (backup.Unlike text)) fine answer = absurd fine

@@ -17,4 +17,3 @@ pub mod DueLaws
 pub mod BackupDueLaws
 pub mod RunDueLaws
 pub mod ClosedStoreLaws
-pub mod ReclaimFitLaws

@@ -54,8 +54,8 @@ module _ (P : List ℕ → Type 0) where
 
   -- what keeping the entries makes is the journal
   kept_all : (before after : ShelfView) (entries : List Entry) (kept : Kept) → P journal_name → KeepAnswer before after entries kept → AllHeld P before.held → AllHeld P after.held
-  kept_all before after [] (Ok done) is keeps all = subst (λ (s : ShelfView). AllHeld P s.held) (sym keeps.1) all
-  kept_all before after (entry ∷ entries) (Ok done) is keeps all = subst (λ (s : ShelfView). AllHeld P s.held) (sym keeps.1) (all_added P before.held journal_name (entries_text (entry ∷ entries)) is all)
+  kept_all before after [] (Ok done) is keeps all = subst (λ (s : ShelfView). AllHeld P s.held) (sym keeps) all
+  kept_all before after (entry ∷ entries) (Ok done) is keeps all = subst (λ (s : ShelfView). AllHeld P s.held) (sym keeps) (all_added P before.held journal_name (entries_text (entry ∷ entries)) is all)
   kept_all before after entries (Err fault) is keeps all = elim keeps.0 [
     | inl same ↦ subst (AllHeld P) (sym same) all
     | inr added ↦ subst (AllHeld P) (sym added.3) (all_added P before.held journal_name added.0 is all)
@@ -69,10 +69,10 @@ WasOrKnown past before name = HasName before name ⊎ ((name ≡ journal_name) �
 job_makes : (kind : JobKind) (before after : Shelves) (sink sink' : SinkView) (status : ℕ) (done : HasDoneJob kind before after sink sink' status) (objects files : Objects) → before.depot.held ≡ Some objects → before.files.held ≡ Some files
     → AllHeld (WasOrKnown (past_of done.new) objects) done.opened.depot.held → AllHeld (WasOrKnown (past_of done.new) objects) done.done.depot.held
 job_makes (Backup input name) before after sink sink' status done objects files told files_told all =
-    let run : HasRunAlone 8 8 done.author done.opened.files done.done.files input name done.store done.new done.opened.depot done.done.depot done.job.result = done.job.done in
+    let run : HasRunAlone 8 8 done.author done.opened.files done.done.files input name done.store done.new done.opened.depot done.done.depot [] done.cache done.job.result = done.job.done in
     let idle : IdleView = record { author = done.author; seen = done.store } in
     let made_known : CreatesKnown (past_of run.after.seen) objects done.done.depot =
-    created-known 8 8 done.opened.files input name idle files objects (rules_of 8 8 run.after.seen) done.opened.depot run.after done.done.depot done.job.result run.answer
+    created-known 8 8 done.opened.files input name idle files objects (rules_of 8 8 run.after.seen) done.opened.depot run.after done.done.depot done.cache done.job.result run.answer
     (ap (λ (f : ShelfView). f.held) done.files_same ∙ files_told) (done.opens.only_reads.held ∙ told) (subst IsLegal (sym run.after_is) done.legal) in
     record {
       now = made_known.now;

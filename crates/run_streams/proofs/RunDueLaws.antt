@@ -37,7 +37,7 @@ use Rattle.store_run.specs.declared.stop.Stop.TheVariants as stop
 use Rattle.store_run.specs.EntryLines.{entry_lines}
 use Rattle.store_run.specs.Feed.{max_stream, EndsAtLimit}
 use Rattle.store_run.specs.JobRun.{Kept, Printed, run_status, HasDoneJob, JobRun}
-use Rattle.store_run.specs.JobRun.JobRun.{ran, not_opened, no_author as none_left}
+use Rattle.store_run.specs.JobRun.JobRun.{ran, not_opened, no_author as none_left, no_cache}
 use Rattle.store_run.specs.Listing.{JournalAnswer}
 use Rattle.store_run.specs.Listing.JournalAnswer.{listed, not_opened as not_read, line_failed as listing_failed, line_wanted_memory as listing_wanted_memory}
 use Rattle.store_run.specs.Opening.{Opens, IsStore, IsOpening, IsRefused, OpeningCount}
@@ -199,8 +199,8 @@ module _ (apart : AreApart) (streams : Streams) (store : StateView) (files : Obj
       (subst (λ n. Rose n after.depot.faults) done.opens.count
       (then_rose done.opened.depot.faults done.done.depot.faults after.depot.faults (job_moves kind before after sink sink' status done) rose))
 
-  backup_is_due : (input asked : List ℕ) (done : HasDoneJob (Backup input asked) before after sink sink' status) → done.ending.kept ≡ Ok tt → NoneFailed done.opened done.done → IsDue done.store done.new files done.answer (Backup input asked)
-  backup_is_due input asked done kept none =
+  backup_is_due : (input asked : List ℕ) (done : HasDoneJob (Backup input asked) before after sink sink' status) → NoneFailed done.opened done.done → IsDue done.store done.new files done.answer (Backup input asked)
+  backup_is_due input asked done none =
       let stream = bytes_of files input in
       let table = with_input streams (past_of store) stream in
       let same = same_store_as done.opened.depot done.store done.opens in
@@ -209,15 +209,15 @@ module _ (apart : AreApart) (streams : Streams) (store : StateView) (files : Obj
         told = files_told;
         of_input = subst (λ (s : StateView). IsOfInput table (past_of s) (past_of done.new) stream) (sym same) (has_input streams (past_of store) (past_of done.new) stream);
       } in
-      let fine = backup_answered table store input asked before after sink sink' status done (whole_with_input streams before.depot store stream is.whole) file kept none in
-      let run : HasRunAlone 8 8 done.author done.opened.files done.done.files input asked done.store done.new done.opened.depot done.done.depot done.job.result = done.job.done in
+      let fine = backup_answered table store input asked before after sink sink' status done (whole_with_input streams before.depot store stream is.whole) file none in
+      let run : HasRunAlone 8 8 done.author done.opened.files done.done.files input asked done.store done.new done.opened.depot done.done.depot [] done.cache done.job.result = done.job.done in
       let closed = subst IsClosed (sym run.after_is) (left_closed (Backup input asked) before after sink sink' status done) in
       subst (λ (a : JobAnswer). IsDue done.store done.new files a (Backup input asked)) (sym done.job.answer_is)
       (subst (λ (s : StateView). IsDue done.store s files (answer_of job.Backup done.job.result) (Backup input asked)) run.after_is
-      (backup_due done.store done.author input asked files done.opened.files (ap (λ (f : ShelfView). f.held) done.files_same ∙ files_told) run.after closed done.opened.depot done.done.depot done.job.result fine run.answer))
+      (backup_due done.store done.author input asked files done.opened.files (ap (λ (f : ShelfView). f.held) done.files_same ∙ files_told) run.after closed done.opened.depot done.done.depot [] done.cache done.job.result fine run.answer))
 
   job_is_due : (kind : JobKind) (done : HasDoneJob kind before after sink sink' status) → done.ending.kept ≡ Ok tt → IsDue done.store done.new files done.answer kind
-  job_is_due (Backup input asked) done kept = backup_is_due input asked done kept (none_inside (Backup input asked) done)
+  job_is_due (Backup input asked) done kept = backup_is_due input asked done (none_inside (Backup input asked) done)
   job_is_due (Restore asked output) done kept =
       restore_is_due asked output files before after sink sink' status done files_told (none_inside (Restore asked output) done)
       (λ fault failed. (whole_front streams store asked output before after sink sink' status done is.whole fault failed).0)
@@ -240,6 +240,7 @@ module _ (apart : AreApart) (streams : Streams) (store : StateView) (files : Obj
   pub ends_duly : (kind : JobKind) → JobRun kind before after sink sink' status → EndsDuly kind store files before after sink sink' status
   ends_duly kind (ran done) = job_ends kind done done.ending.kept done.ending.printed refl refl done.ending.keep_count done.ending.print_count done.ending.status_is
   ends_duly kind (not_opened why opens same refuses) = memory_wanted (not_opened_is apart streams store before.depot after.depot sink sink' status why is quiet.depot sink_quiet opens refuses)
+  ends_duly kind (no_cache found opens same refuses) = memory_wanted (memory_for [] sink sink' status sink_quiet refuses)
   ends_duly kind (none_left found opens none same refuses) = elim (ends_for stop.Callers [] sink sink' status sink_quiet refuses) [
     | inl seven ↦ no_author (subst (λ (s : StateView). author_after (past_of s) ≡ None) (same_store_as after.depot found opens) none) seven
     | inr eight ↦ memory_wanted eight

@@ -29,6 +29,7 @@ use Rattle.store_run.specs.JobRun.{HasDoneJob}
 use Rattle.store_run.specs.Opening.{IsLegal}
 use Rattle.run_streams.specs.RunStreams.{HasFile, HasInput, StoresNothing}
 use Rattle.run_streams.proofs.KeepLaws.{keep_gave}
+use Rattle.run_streams.proofs.OpenedLaws.{entries_read}
 use Rattle.run_streams.proofs.PointLaws.{StoreNothing, restore_stores_nothing, delete_stores_nothing, stat_stores_nothing, reclaim_stores_nothing, entries_store_nothing}
 
 module _ (kind : JobKind) (streams : Streams) (before after : Shelves) (sink sink' : SinkView) (status : ℕ) (done : HasDoneJob kind before after sink sink' status) where
@@ -54,8 +55,8 @@ module _ (kind : JobKind) (streams : Streams) (before after : Shelves) (sink sin
 
 -- ---- a backup
 
-module _ (input name : List ℕ) (streams : Streams) (before after : Shelves) (sink sink' : SinkView) (status : ℕ) (done : HasDoneJob (Backup input name) before after sink sink' status) (file : HasFile input streams before.files (past_of done.store) (past_of done.new)) (entries : All IsEntry (past_of done.new)) (was : IsOfStreamsThen (Backup input name) streams before after sink sink' status done) where
-  pub run : HasRunAlone 8 8 done.author done.opened.files done.done.files input name done.store done.new done.opened.depot done.done.depot done.job.result
+module _ (input name : List ℕ) (streams : Streams) (before after : Shelves) (sink sink' : SinkView) (status : ℕ) (done : HasDoneJob (Backup input name) before after sink sink' status) (file : HasFile input streams before.files (past_of done.store) (past_of done.new)) (was : IsOfStreamsThen (Backup input name) streams before after sink sink' status done) where
+  pub run : HasRunAlone 8 8 done.author done.opened.files done.done.files input name done.store done.new done.opened.depot done.done.depot [] done.cache done.job.result
   run = done.job.done
 
   abbrev pub idle : IdleView
@@ -68,26 +69,26 @@ module _ (input name : List ℕ) (streams : Streams) (before after : Shelves) (s
   of_input = subst (λ (view : StateView). IsOfInput streams (past_of done.store) (past_of view) (bytes_of file.objects input)) (sym run.after_is) file.of_input
 
   pub entries_seen : All IsEntry (past_of run.after.seen)
-  entries_seen = subst (λ (view : StateView). All IsEntry (past_of view)) (sym run.after_is) entries
+  entries_seen = subst (λ (view : StateView). All IsEntry (past_of view)) (sym run.after_is) (entries_read (Backup input name) before after sink sink' status done)
 
   -- from what it loaded
   by_loads : (reads : Reads) → HasLoaded (numbers_of done.store.profile) streams (reads ∷ []) (past_of done.store) (past_of run.after.seen) → KeepsStreams (Backup input name) streams before after sink sink' status done reads
   by_loads reads loaded =
       let n = numbers_of done.store.profile in
       let seen = run.after.seen in
-      let contents = backup-has 8 8 done.opened.files input name idle streams file.objects files_told done.opened.depot run.after done.done.depot done.job.result run.answer of_input was.contents in
+      let contents = backup-has 8 8 done.opened.files input name idle streams file.objects files_told done.opened.depot [] run.after done.done.depot done.cache done.job.result run.answer of_input was.contents in
       subst (λ (view : StateView). IsOfStreams n streams (past_of view) ⊎ Collide n streams (past_of view) (IsGiven (reads ∷ []) (past_of view))) run.after_is
       (loaded-of_streams done.store.profile streams (rules_of 8 8 seen) (reads ∷ []) (past_of done.store) (past_of seen) (subst IsLegal (sym run.after_is) done.legal) entries_seen was contents loaded)
 
   pub backed_up : (objects : Objects) → before.depot.held ≡ Some objects → KeepsStreams (Backup input name) streams before after sink sink' status done (held objects)
   backed_up objects told =
       by_loads (held objects)
-      (backup-held 8 8 done.opened.files input name idle streams file.objects files_told done.opened.depot objects (done.opens.only_reads.held ∙ told) run.after done.done.depot done.job.result run.answer of_input entries_seen)
+      (backup-held 8 8 done.opened.files input name idle streams file.objects files_told done.opened.depot objects (done.opens.only_reads.held ∙ told) run.after done.done.depot done.cache done.job.result run.answer of_input entries_seen)
 
   -- whatever the depot tells, by the reads that the job made
   pub keeps_recorded : (reads : List Given) × ReadsMore done.opened.depot after.depot reads × KeepsStreams (Backup input name) streams before after sink sink' status done (recorded reads)
   keeps_recorded =
-      let loaded = backup-recorded 8 8 done.opened.files input name idle streams file.objects files_told done.opened.depot run.after done.done.depot done.job.result run.answer of_input in (
+      let loaded = backup-recorded 8 8 done.opened.files input name idle streams file.objects files_told done.opened.depot run.after done.done.depot done.cache done.job.result run.answer of_input in (
         loaded.reads,
         keep_gave done.done.depot after.depot (map (made done.author) done.points) done.ending.kept done.ending.keeps ∙ loaded.more,
         by_loads (recorded loaded.reads) loaded.loaded,
@@ -109,11 +110,11 @@ others_keep Stat streams before after sink sink' status done nothing was =
     still Stat streams before after sink sink' status done (stat_stores_nothing done.answer done.points done.calls) was
 
 pub keeps_held : (kind : JobKind) (streams : Streams) (objects : Objects) (before after : Shelves) (sink sink' : SinkView) (status : ℕ) (done : HasDoneJob kind before after sink sink' status)
-    → before.depot.held ≡ Some objects → HasInput kind streams before.files (past_of done.store) (past_of done.new) → All IsEntry (past_of done.new)
+    → before.depot.held ≡ Some objects → HasInput kind streams before.files (past_of done.store) (past_of done.new)
     → IsOfStreamsThen kind streams before after sink sink' status done → KeepsStreams kind streams before after sink sink' status done (held objects)
-keeps_held (Backup input name) streams objects before after sink sink' status done told input_is entries was =
-    backed_up input name streams before after sink sink' status done input_is entries was objects told
-keeps_held (Restore name output) streams objects before after sink sink' status done told input_is entries was = inl (others_keep (Restore name output) streams before after sink sink' status done tt was)
-keeps_held (Delete name) streams objects before after sink sink' status done told input_is entries was = inl (others_keep (Delete name) streams before after sink sink' status done tt was)
-keeps_held Reclaim streams objects before after sink sink' status done told input_is entries was = inl (others_keep Reclaim streams before after sink sink' status done tt was)
-keeps_held Stat streams objects before after sink sink' status done told input_is entries was = inl (others_keep Stat streams before after sink sink' status done tt was)
+keeps_held (Backup input name) streams objects before after sink sink' status done told input_is was =
+    backed_up input name streams before after sink sink' status done input_is was objects told
+keeps_held (Restore name output) streams objects before after sink sink' status done told input_is was = inl (others_keep (Restore name output) streams before after sink sink' status done tt was)
+keeps_held (Delete name) streams objects before after sink sink' status done told input_is was = inl (others_keep (Delete name) streams before after sink sink' status done tt was)
+keeps_held Reclaim streams objects before after sink sink' status done told input_is was = inl (others_keep Reclaim streams before after sink sink' status done tt was)
+keeps_held Stat streams objects before after sink sink' status done told input_is was = inl (others_keep Stat streams before after sink sink' status done tt was)

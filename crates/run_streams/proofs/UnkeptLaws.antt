@@ -34,7 +34,7 @@ use Rattle.backed_up_streams.specs.WholeThen.{IsWholeThen}
 use Rattle.job_script.specs.declared.job.JobKind.{JobKind}
 use Rattle.store_run.specs.JobRun.{KeepAnswer, HasDoneJob}
 use Rattle.run_streams.specs.RunStreams.{HasInput}
-use Rattle.run_streams.specs.Unkept.{EntriesFit, IsStillWhole, KeepsLive}
+use Rattle.run_streams.specs.Unkept.{IsStillWhole, KeepsLive}
 use Rattle.run_streams.specs.WholeStores.{IsWholeStore}
 use Rattle.run_streams.proofs.OpenedLaws.{told_store}
 use Rattle.run_streams.proofs.WholeRunLaws.{job_whole, no_journal, whole_journal, one_store}
@@ -117,9 +117,9 @@ left_so n streams past new first depot after (inr (front, back, texts, added)) i
 -- ---- a run
 
 pub live_kept : (kind : JobKind) (streams : Streams) (store : StateView) (before after : Shelves) (sink sink' : SinkView) (status : ℕ) (fault : AppendFault) (done : HasDoneJob kind before after sink sink' status) → done.ending.kept ≡ Err fault → (is : IsWholeStore streams before.depot store)
-    → HasInput kind streams before.files (past_of done.store) (past_of done.new) → EntriesFit kind (past_of done.new)
+    → HasInput kind streams before.files (past_of done.store) (past_of done.new)
     → KeepsLive (numbers_of store.profile) streams (past_of store) (past_of done.new) (map (made done.author) done.points) is.objects after.depot
-live_kept kind streams store before after sink sink' status fault done failed is input_is entries =
+live_kept kind streams store before after sink sink' status fault done failed is input_is =
     let opened = told_store before.depot done.opened.depot done.store is.objects done.opens is.told in
     let same : done.store ≡ store = one_store (bytes_of is.objects journal_name) done.store store opened.journal is.journal in
     let n = numbers_of done.store.profile in
@@ -127,7 +127,7 @@ live_kept kind streams store before after sink sink' status fault done failed is
     let keeps : KeepAnswer done.done.depot after.depot new (Err fault) = subst (KeepAnswer done.done.depot after.depot new) failed done.ending.keeps in
     let was = subst (λ (s : StateView). IsOfStreams (numbers_of s.profile) streams (past_of s)) (sym same) is.of_streams in
     let whole = subst (λ (s : StateView). IsWhole (numbers_of s.profile) streams (past_of s) is.objects) (sym same) is.whole in
-    let then_whole = job_whole kind streams before after sink sink' status done is.objects is.told input_is entries was whole in
+    let then_whole = job_whole kind streams before after sink sink' status done is.objects is.told input_is was whole in
     let left = left_so n streams (past_of done.new) new is.objects done.done.depot after.depot keeps.0 then_whole in
     subst (λ (s : StateView). KeepsLive (numbers_of s.profile) streams (past_of s) (past_of done.new) new is.objects after.depot) same
     (record {

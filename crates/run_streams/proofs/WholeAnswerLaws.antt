@@ -1,5 +1,5 @@
 -- What jobs in a whole store answer.
-use Rattle.std.proofs.Common.{◌≡◌, ◌⊎◌, false, ℕ, List, map, Some, refl, sym, ap, ◌∙◌, subst}
+use Rattle.std.proofs.Common.{◌≡◌, ◌⊎◌, false, ℕ, List, Some, refl, sym, ap, ◌∙◌, subst, []}
 use Rattle.std.specs.Prelude.{Result, Ok, Err}
 use Rattle.std.specs.FinMap.{contains_key}
 use Rattle.std.specs.List.{All}
@@ -11,7 +11,7 @@ use Rattle.outside.specs.Views.{ShelfView, SinkView}
 use Rattle.journal_entry.specs.Bounds.{IsEntry}
 use Rattle.history.specs.Sessions.{retained}
 use Rattle.journal_file.specs.Header.{journal_name}
-use Rattle.store_core.specs.View.{StateView, past_of, rules_of, made}
+use Rattle.store_core.specs.View.{StateView, past_of, rules_of}
 use Rattle.depot.specs.declared.fault.BackupFault.{BackupFault}
 use Rattle.depot.specs.declared.fault.BackupFault.TheVariants as backup
 use Rattle.depot.specs.declared.fault.RestoreFault.{RestoreFault}
@@ -38,9 +38,9 @@ use Rattle.store_run.specs.Opening.{IsLegal}
 use Rattle.run_streams.specs.Answered.{IsNoFault}
 use Rattle.run_streams.specs.RunStreams.{HasFile}
 use Rattle.run_streams.specs.WholeStores.{IsWholeStore}
-use Rattle.run_streams.proofs.OpenedLaws.{told_store, store_entries}
+use Rattle.run_streams.proofs.OpenedLaws.{told_store, store_entries, entries_read}
 use Rattle.run_streams.proofs.RestoreLaws.{whole_given_back, whole_front_left}
-use Rattle.run_streams.proofs.WholeRunLaws.{one_store, kept_well, past_valid}
+use Rattle.run_streams.proofs.WholeRunLaws.{one_store}
 
 -- a restore from a whole store
 pub whole_restored : (streams : Streams) (store : StateView) (name output : List ℕ) (before after : Shelves) (sink sink' : SinkView) → HasDoneJob (Restore name output) before after sink sink' 0 → IsWholeStore streams before.depot store
@@ -99,16 +99,14 @@ no_fault (Err (backup.Damaged want got)) files files' depot depot' input_count d
 no_fault (Err (backup.Unlike text)) files files' depot depot' input_count depot_count none_files none_depot fine = fine (backup.Unlike text) refl
 
 pub backup_answered : (streams : Streams) (store : StateView) (input name : List ℕ) (before after : Shelves) (sink sink' : SinkView) (status : ℕ) (done : HasDoneJob (Backup input name) before after sink sink' status) → IsWholeStore streams before.depot store
-    → HasFile input streams before.files (past_of done.store) (past_of done.new) → done.ending.kept ≡ Ok tt → NoneFailed done.opened done.done → IsNoFault done.job.result
-backup_answered streams store input name before after sink sink' status done is file kept none_failed =
+    → HasFile input streams before.files (past_of done.store) (past_of done.new) → NoneFailed done.opened done.done → IsNoFault done.job.result
+backup_answered streams store input name before after sink sink' status done is file none_failed =
     let opened = told_store before.depot done.opened.depot done.store is.objects done.opens is.told in
     let same : done.store ≡ store = one_store (bytes_of is.objects journal_name) done.store store opened.journal is.journal in
-    let new = map (made done.author) done.points in
-    let keeps = kept_well done.done.depot after.depot new done.ending.kept kept done.ending.keeps in
     let was = subst (λ (s : StateView). IsOfStreams (numbers_of s.profile) streams (past_of s)) (sym same) is.of_streams in
     let whole = subst (λ (s : StateView). IsWhole (numbers_of s.profile) streams (past_of s) is.objects) (sym same) is.whole in
-    let entries = subst (λ (s : StateView). All IsEntry (past_of s)) (sym done.added) (past_valid done.store.entries new opened.journal.journal.valid keeps.0) in
-    let run : HasRunAlone 8 8 done.author done.opened.files done.done.files input name done.store done.new done.opened.depot done.done.depot done.job.result = done.job.done in
+    let entries = entries_read (Backup input name) before after sink sink' status done in
+    let run : HasRunAlone 8 8 done.author done.opened.files done.done.files input name done.store done.new done.opened.depot done.done.depot [] done.cache done.job.result = done.job.done in
     let idle : IdleView = record { author = done.author; seen = done.store } in
     let files_told : done.opened.files.held ≡ Some file.objects = ap (λ (files : ShelfView). files.held) done.files_same ∙ file.told in
     let of_input = subst (λ (view : StateView). IsOfInput streams (past_of done.store) (past_of view) (bytes_of file.objects input)) (sym run.after_is) file.of_input in
@@ -116,5 +114,5 @@ backup_answered streams store input name before after sink sink' status done is 
     let legal = subst IsLegal (sym run.after_is) done.legal in
     no_fault done.job.result done.opened.files.faults done.done.files.faults done.opened.depot.faults done.done.depot.faults run.input_count run.depot_count none_failed.files none_failed.depot
     (λ fault failed.
-    no_damage 8 8 done.opened.files input name idle streams file.objects files_told done.opened.depot is.objects (done.opens.only_reads.held ∙ is.told) (rules_of 8 8 run.after.seen) was whole run.after done.done.depot fault
-    (subst (λ (r : Result ℕ BackupFault). BackupAnswer alone 8 8 done.opened.files input name idle done.opened.depot run.after done.done.depot r) failed run.answer) of_input legal entries_seen)
+    no_damage 8 8 done.opened.files input name idle streams file.objects files_told done.opened.depot is.objects (done.opens.only_reads.held ∙ is.told) (rules_of 8 8 run.after.seen) was whole run.after done.done.depot done.cache fault
+    (subst (λ (r : Result ℕ BackupFault). BackupAnswer alone 8 8 done.opened.files input name idle done.opened.depot [] run.after done.done.depot done.cache r) failed run.answer) of_input legal entries_seen)

@@ -18,7 +18,7 @@ use Rattle.ss_base.specs.declared.profile.Profile.{Profile}
 use Rattle.ss_base.specs.ObjectName.{object_text}
 use Rattle.ss_base.specs.Profile.{numbers_of, AreSound}
 use Rattle.ss_base.proofs.IdLaws.{same_object-self}
-use Rattle.ss_base.proofs.MemberLaws.{In, in_any, reverse_in, All-from_in}
+use Rattle.ss_base.proofs.MemberLaws.{In, in_any}
 use Rattle.ss_base.proofs.SoundLaws.{AreSound-numbers_of}
 use Rattle.outside.specs.Shelf.{Objects, bytes_of, part_of, with_added, without_object}
 use Rattle.outside.specs.Views.{ShelfView, SinkView}
@@ -68,12 +68,10 @@ use Rattle.job_run.specs.Erasing.LastReclaim.{few, troubled, unmade}
 use Rattle.store_run.specs.JobRun.{Kept, KeepAnswer, HasDoneJob}
 use Rattle.store_run.specs.Opening.{store_of, IsLegal, IsJournalOf}
 use Rattle.run_streams.specs.RunStreams.{HasFile, HasInput}
-use Rattle.run_streams.specs.Unkept.{EntriesFit}
 use Rattle.run_streams.specs.WholeStores.{IsWholeStore, KeepsStore, KeepStore}
 use Rattle.run_streams.specs.WholeStores.KeepsStore.{job_done, only_read}
 use Rattle.run_streams.specs.WholeStores.KeepStore.{no_run, one_more}
-use Rattle.run_streams.proofs.OpenedLaws.{told_store, entries_in, store_entries}
-use Rattle.run_streams.proofs.ReclaimFitLaws.{author_low, reclaims_fit}
+use Rattle.run_streams.proofs.OpenedLaws.{told_store, all_valid, entries_read}
 use Rattle.run_streams.proofs.PointLaws.{StoreNothing, restore_stores_nothing, delete_stores_nothing, stat_stores_nothing, reclaim_stores_nothing, entries_store_nothing}
 
 -- ---- entries that commit nothing
@@ -209,10 +207,6 @@ weight_reversed (entry ∷ entries) =
     let rest = weight_reversed entries in
     omega (arith, split, first, alone, rest)
 
-all_valid : (one other : List Entry) → AllByRecursion IsEntry one → AllByRecursion IsEntry other → AllByRecursion IsEntry (one ++ other)
-all_valid [] other valid valid_too = valid_too
-all_valid (entry ∷ one) other valid valid_too = (valid.0, all_valid one other valid.1 valid_too)
-
 texts_both : (one other : List Entry) → entries_text (one ++ other) ≡ entries_text one ++ entries_text other
 texts_both one other = flat_map-append entry_text one other
 
@@ -297,40 +291,38 @@ module _ (kind : JobKind) (streams : Streams) (before after : Shelves) (sink sin
         }
 
 pub backup_whole_run : (input name : List ℕ) (streams : Streams) (before after : Shelves) (sink sink' : SinkView) (status : ℕ) (done : HasDoneJob (Backup input name) before after sink sink' status) (objects : Objects) (told : before.depot.held ≡ Some objects)
-    → HasFile input streams before.files (past_of done.store) (past_of done.new) → All IsEntry (past_of done.new)
+    → HasFile input streams before.files (past_of done.store) (past_of done.new)
     → IsOfStreams (numbers_of done.store.profile) streams (past_of done.store) → IsWhole (numbers_of done.store.profile) streams (past_of done.store) objects
     → ThenWhole (Backup input name) streams before after sink sink' status done objects told
-backup_whole_run input name streams before after sink sink' status done objects told file entries was whole =
-    let run : HasRunAlone 8 8 done.author done.opened.files done.done.files input name done.store done.new done.opened.depot done.done.depot done.job.result = done.job.done in
+backup_whole_run input name streams before after sink sink' status done objects told file was whole =
+    let run : HasRunAlone 8 8 done.author done.opened.files done.done.files input name done.store done.new done.opened.depot done.done.depot [] done.cache done.job.result = done.job.done in
     let idle : IdleView = record { author = done.author; seen = done.store } in
     let n = numbers_of done.store.profile in
     let files_told : done.opened.files.held ≡ Some file.objects = ap (λ (files : ShelfView). files.held) done.files_same ∙ file.told in
     let of_input = subst (λ (view : StateView). IsOfInput streams (past_of done.store) (past_of view) (bytes_of file.objects input)) (sym run.after_is) file.of_input in
-    let entries_seen = subst (λ (view : StateView). All IsEntry (past_of view)) (sym run.after_is) entries in
+    let entries_seen = subst (λ (view : StateView). All IsEntry (past_of view)) (sym run.after_is) (entries_read (Backup input name) before after sink sink' status done) in
     let legal = subst IsLegal (sym run.after_is) done.legal in
     subst (λ (view : StateView). IsWholeThen n streams (past_of view) objects done.done.depot) run.after_is
-    (whole-backup 8 8 done.opened.files input name idle streams file.objects files_told done.opened.depot objects (done.opens.only_reads.held ∙ told) (rules_of 8 8 run.after.seen) run.after done.done.depot done.job.result run.answer of_input legal entries_seen was whole)
+    (whole-backup 8 8 done.opened.files input name idle streams file.objects files_told done.opened.depot objects (done.opens.only_reads.held ∙ told) (rules_of 8 8 run.after.seen) run.after done.done.depot done.cache done.job.result run.answer of_input legal entries_seen was whole)
 
 pub job_whole : (kind : JobKind) (streams : Streams) (before after : Shelves) (sink sink' : SinkView) (status : ℕ) (done : HasDoneJob kind before after sink sink' status) (objects : Objects) (told : before.depot.held ≡ Some objects)
-    → HasInput kind streams before.files (past_of done.store) (past_of done.new) → EntriesFit kind (past_of done.new)
+    → HasInput kind streams before.files (past_of done.store) (past_of done.new)
     → IsOfStreams (numbers_of done.store.profile) streams (past_of done.store) → IsWhole (numbers_of done.store.profile) streams (past_of done.store) objects
     → ThenWhole kind streams before after sink sink' status done objects told
-job_whole (Backup input name) streams before after sink sink' status done objects told input_is entries was whole =
-    backup_whole_run input name streams before after sink sink' status done objects told input_is entries was whole
-job_whole (Restore name output) streams before after sink sink' status done objects told input_is entries was whole =
+job_whole (Backup input name) streams before after sink sink' status done objects told input_is was whole =
+    backup_whole_run input name streams before after sink sink' status done objects told input_is was whole
+job_whole (Restore name output) streams before after sink sink' status done objects told input_is was whole =
     still_whole (Restore name output) streams before after sink sink' status done objects told was whole (restore_stores_nothing name done.calls.result done.points done.calls.points_are) done.job.depot.held
-job_whole (Delete name) streams before after sink sink' status done objects told input_is entries was whole =
+job_whole (Delete name) streams before after sink sink' status done objects told input_is was whole =
     still_whole (Delete name) streams before after sink sink' status done objects told was whole (delete_stores_nothing name done.answer done.points done.calls) (ap (λ (s : Shelves). s.depot.held) done.job.1)
-job_whole Stat streams before after sink sink' status done objects told input_is entries was whole =
+job_whole Stat streams before after sink sink' status done objects told input_is was whole =
     still_whole Stat streams before after sink sink' status done objects told was whole (stat_stores_nothing done.answer done.points done.calls) (ap (λ (s : Shelves). s.depot.held) done.job.1)
-job_whole Reclaim streams before after sink sink' status done objects told input_is entries was whole =
+job_whole Reclaim streams before after sink sink' status done objects told input_is was whole =
     let n = numbers_of done.store.profile in
     let rules = rules_of 8 8 done.new in
-    let older = store_entries (bytes_of objects journal_name) done.store (told_store before.depot done.opened.depot done.store objects done.opens told) in
-    let fit = reclaims_fit rules done.author (author_low (past_of done.store) done.author done.author_is) done.store done.new done.opened.depot done.done.depot done.answer done.job.0 older done.legal in
     let of_now = still_of Reclaim streams before after sink sink' status done objects told was whole (reclaim_stores_nothing done.answer done.points done.calls) in
     reclaim_then n (AreSound-numbers_of done.store.profile) rules streams objects done.author done.store done.new done.opened.depot done.done.depot done.answer done.job.0
-    (record { legal = done.legal; entries = fit; of_streams = of_now })
+    (record { legal = done.legal; entries = entries_read Reclaim before after sink sink' status done; of_streams = of_now })
     (at_first Reclaim streams before after sink sink' status done objects told was whole)
 
 -- ---- the kept journal
@@ -370,20 +362,8 @@ kept_depot n streams past first depot after (entry ∷ new) held is =
       whole_journal n streams past is.now text is.whole,
     )
 
-pub kept_well : (before after : ShelfView) (entries : List Entry) (kept : Kept) → kept ≡ Ok tt → KeepAnswer before after entries kept → KeepAnswer before after entries (Ok tt)
+kept_well : (before after : ShelfView) (entries : List Entry) (kept : Kept) → kept ≡ Ok tt → KeepAnswer before after entries kept → KeepAnswer before after entries (Ok tt)
 kept_well before after entries kept is keeps = subst (KeepAnswer before after entries) is keeps
-
-pub past_valid : (older new : List Entry) → AllByRecursion IsEntry older → AllByRecursion IsEntry new → All IsEntry (reverse (older ++ new))
-past_valid older new valid valid_too =
-    All-from_in IsEntry (reverse (older ++ new)) (λ entry there. entries_in (older ++ new) (all_valid older new valid valid_too) entry (reverse_in entry (older ++ new) there))
-
--- entries that fit are what each job asks for
-entries_fit : (kind : JobKind) (past : List Entry) → All IsEntry past → EntriesFit kind past
-entries_fit (Backup input name) past entries = entries
-entries_fit (Restore name output) past entries = tt
-entries_fit (Delete name) past entries = tt
-entries_fit Reclaim past entries = tt
-entries_fit Stat past entries = tt
 
 -- a run that kept its entries
 pub done_keeps_store : (kind : JobKind) (streams : Streams) (before after : Shelves) (store : StateView) (sink sink' : SinkView) (status : ℕ) (done : HasDoneJob kind before after sink sink' status) → done.ending.kept ≡ Ok tt → HasInput kind streams before.files (past_of done.store) (past_of done.new)
@@ -395,13 +375,12 @@ done_keeps_store kind streams before after store sink sink' status done kept inp
     let keeps = kept_well done.done.depot after.depot new done.ending.kept kept done.ending.keeps in
     let was = subst (λ (s : StateView). IsOfStreams (numbers_of s.profile) streams (past_of s)) (sym same) is.of_streams in
     let whole = subst (λ (s : StateView). IsWhole (numbers_of s.profile) streams (past_of s) is.objects) (sym same) is.whole in
-    let entries = subst (λ (s : StateView). All IsEntry (past_of s)) (sym done.added) (past_valid done.store.entries new opened.journal.journal.valid keeps.0) in
-    let then_whole = job_whole kind streams before after sink sink' status done is.objects is.told input_is (entries_fit kind (past_of done.new) entries) was whole in
+    let then_whole = job_whole kind streams before after sink sink' status done is.objects is.told input_is was whole in
     let (now, held_is, text, whole_now) =
     kept_depot (numbers_of done.store.profile) streams (past_of done.new) is.objects done.done.depot after.depot new
-    (ap (λ (s : ShelfView). s.held) keeps.1) then_whole in
+    (ap (λ (s : ShelfView). s.held) keeps) then_whole in
     let profile_same : done.store.profile ≡ done.new.profile = ap (λ (s : StateView). s.profile) (sym done.added) in
-    let journal = journal_more (bytes_of is.objects journal_name) done.store new opened.journal keeps.0 (subst IsLegal done.added done.legal) in
+    let journal = journal_more (bytes_of is.objects journal_name) done.store new opened.journal done.ending.fit (subst IsLegal done.added done.legal) in
     record {
       objects = now;
       told = held_is;

@@ -1,14 +1,12 @@
 -- What a run wrote to its depot.
 use Rattle.std.proofs.Common.{◌≡◌, ℕ, List, [], ◌∷◌, ◌++◌, map, Option, Some, None, refl, sym, ap, ◌∙◌, subst}
 use Rattle.std.specs.Option.{option_map}
-use Rattle.std.specs.List.{All}
 use Rattle.ss_base.specs.declared.object.Object.{Object}
 use Rattle.ss_base.specs.Profile.{numbers_of}
 use Rattle.outside.specs.Shelf.{Objects, Given, Written, bytes_of}
 use Rattle.outside.specs.Views.{ShelfView, SinkView}
 use Rattle.outside.specs.declared.trouble.Trouble.{Trouble}
 use Rattle.journal_entry.specs.declared.entry.Entry.{Entry}
-use Rattle.journal_entry.specs.Bounds.{IsEntry}
 use Rattle.store_core.specs.View.{StateView, past_of, rules_of, made}
 use Rattle.restore.specs.Copies.{Shelves}
 use Rattle.history_calls.specs.Tokens.{IdleView}
@@ -82,27 +80,27 @@ others_wrote kind before after sink sink' status done nothing =
 
 -- ---- a backup
 
-module _ (input name : List ℕ) (streams : Streams) (before after : Shelves) (sink sink' : SinkView) (status : ℕ) (done : HasDoneJob (Backup input name) before after sink sink' status) (file : HasFile input streams before.files (past_of done.store) (past_of done.new)) (entries : All IsEntry (past_of done.new)) (was : IsOfStreamsThen (Backup input name) streams before after sink sink' status done) where
+module _ (input name : List ℕ) (streams : Streams) (before after : Shelves) (sink sink' : SinkView) (status : ℕ) (done : HasDoneJob (Backup input name) before after sink sink' status) (file : HasFile input streams before.files (past_of done.store) (past_of done.new)) (was : IsOfStreamsThen (Backup input name) streams before after sink sink' status done) where
   abbrev WritesBehind : Reads → StateView → Type 0
   WritesBehind reads view = HasWritten (numbers_of done.store.profile) streams (reads ∷ []) (past_of done.store) (past_of view) done.opened.depot done.done.depot
 
   abbrev pub RunWrote : Reads → Type 0
   RunWrote reads = RunWrites (numbers_of done.store.profile) streams (reads ∷ []) (past_of done.store) (past_of done.new) (map (made done.author) done.points) done.ending.kept before.depot after.depot
 
-  abbrev the_run : HasRunAlone 8 8 done.author done.opened.files done.done.files input name done.store done.new done.opened.depot done.done.depot done.job.result
-  the_run = run input name streams before after sink sink' status done file entries was
+  abbrev the_run : HasRunAlone 8 8 done.author done.opened.files done.done.files input name done.store done.new done.opened.depot done.done.depot [] done.cache done.job.result
+  the_run = run input name streams before after sink sink' status done file was
 
   abbrev caller : IdleView
-  caller = idle input name streams before after sink sink' status done file entries was
+  caller = idle input name streams before after sink sink' status done file was
 
   told : done.opened.files.held ≡ Some file.objects
-  told = files_told input name streams before after sink sink' status done file entries was
+  told = files_told input name streams before after sink sink' status done file was
 
   input_is : IsOfInput streams (past_of done.store) (past_of the_run.after.seen) (bytes_of file.objects input)
-  input_is = of_input input name streams before after sink sink' status done file entries was
+  input_is = of_input input name streams before after sink sink' status done file was
 
   contents : HasContents (numbers_of done.store.profile) streams (past_of the_run.after.seen)
-  contents = backup-has 8 8 done.opened.files input name caller streams file.objects told done.opened.depot the_run.after done.done.depot done.job.result the_run.answer input_is was.contents
+  contents = backup-has 8 8 done.opened.files input name caller streams file.objects told done.opened.depot [] the_run.after done.done.depot done.cache done.job.result the_run.answer input_is was.contents
 
   at_end : (reads : Reads) → WritesBehind reads the_run.after.seen → RunWrote reads
   at_end reads is =
@@ -117,17 +115,17 @@ module _ (input name : List ℕ) (streams : Streams) (before after : Shelves) (s
   pub written_held : (objects : Objects) → before.depot.held ≡ Some objects → RunWrote (held objects)
   written_held objects depot_told =
       at_end (held objects)
-      (held-wrote 8 8 done.opened.files input name caller streams file.objects told done.opened.depot (rules_of 8 8 the_run.after.seen) the_run.after done.done.depot
+      (held-wrote 8 8 done.opened.files input name caller streams file.objects told done.opened.depot (rules_of 8 8 the_run.after.seen) the_run.after done.done.depot done.cache
       (subst IsLegal (sym the_run.after_is) done.legal)
-      (entries_seen input name streams before after sink sink' status done file entries was)
+      (entries_seen input name streams before after sink sink' status done file was)
       was contents objects (done.opens.only_reads.held ∙ depot_told) done.job.result the_run.answer input_is)
 
   pub written_recorded : (reads : List Given) × ReadsMore done.opened.depot after.depot reads × RunWrote (recorded reads)
   written_recorded =
       let (reads, more_reads, written) =
-      recorded-wrote 8 8 done.opened.files input name caller streams file.objects told done.opened.depot (rules_of 8 8 the_run.after.seen) the_run.after done.done.depot
+      recorded-wrote 8 8 done.opened.files input name caller streams file.objects told done.opened.depot (rules_of 8 8 the_run.after.seen) the_run.after done.done.depot done.cache
       (subst IsLegal (sym the_run.after_is) done.legal)
-      (entries_seen input name streams before after sink sink' status done file entries was)
+      (entries_seen input name streams before after sink sink' status done file was)
       was contents done.job.result the_run.answer input_is in (
         reads,
         keep_gave done.done.depot after.depot (map (made done.author) done.points) done.ending.kept done.ending.keeps ∙ more_reads,

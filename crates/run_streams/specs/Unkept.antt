@@ -1,6 +1,5 @@
 -- What a run leaves whose entries were not kept (this project's own).
 use Rattle.std.specs.Prelude.{ℕ, ◌≡◌, true, List, ◌++◌, Some}
-use Rattle.std.specs.List.{All}
 use Rattle.ss_base.specs.declared.ids.ManifestId.{ManifestId}
 use Rattle.ss_base.specs.declared.object.Object.TheVariants.{Manifest}
 use Rattle.ss_base.specs.declared.profile.Numbers.{Numbers}
@@ -8,20 +7,12 @@ use Rattle.ss_base.specs.ObjectName.{object_text}
 use Rattle.outside.specs.Shelf.{Objects, bytes_of}
 use Rattle.outside.specs.Views.{ShelfView}
 use Rattle.journal_entry.specs.declared.entry.Entry.{Entry}
-use Rattle.journal_entry.specs.Bounds.{IsEntry}
 use Rattle.journal_entry.specs.EntryText.{entries_text}
 use Rattle.history.specs.Need.{is_live}
 use Rattle.journal_file.specs.Header.{journal_name}
 use Rattle.stored_streams.specs.Streams.{Streams}
 use Rattle.stored_streams.specs.Plans.{planned_places, plans_of}
 use Rattle.stored_streams.specs.Whole.{IsManifestWhole, IsWhole}
-use Rattle.job_script.specs.declared.job.JobKind.{JobKind}
-use Rattle.job_script.specs.declared.job.JobKind.TheVariants.{Backup}
-
--- the entries that a backup leaves are within the bounds of a journal's; nothing is asked of another job
-abbrev pub EntriesFit : JobKind → List Entry → Type 0
-EntriesFit (Backup input name) past = All IsEntry past
-EntriesFit _ past = Unit {0}
 
 -- A manifest is whole for a history that went on: its object has the bytes that it had, its places are those that it
 -- had, and at each of them lies a chunk with the piece there.

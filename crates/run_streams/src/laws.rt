@@ -4,7 +4,6 @@ ghost use Rattle.std.specs.Prelude.{ℕ, ◌≡◌, ◌⊎◌, false, [], ◌∷
 ghost use Rattle.std.specs.List.{All};
 ghost use Rattle.ss_base.specs.declared.profile.Profile.{Profile};
 ghost use Rattle.ss_base.specs.Profile.{numbers_of};
-ghost use Rattle.journal_entry.specs.Bounds.{IsEntry};
 ghost use Rattle.outside.specs.Shelf.{Objects, Given, bytes_of};
 ghost use Rattle.outside.specs.Views.{SourceView, SinkView, ShelfView, SourceFailed, SinkFailed, ShelfFailed, Takes};
 ghost use Rattle.journal_file.specs.Header.{journal_name};
@@ -37,7 +36,7 @@ ghost use Rattle.run_streams.specs.Ends.{IsClosedStore, EndsDuly};
 ghost use Rattle.run_streams.specs.Erased.{HasErased, OnlyReadsDepot};
 ghost use Rattle.run_streams.specs.Made.{MakesKnown};
 ghost use Rattle.run_streams.specs.RunStreams.{HasInput, StoresNothing};
-ghost use Rattle.run_streams.specs.Unkept.{EntriesFit, KeepsLive};
+ghost use Rattle.run_streams.specs.Unkept.{KeepsLive};
 ghost use Rattle.run_streams.specs.Wrote.{with_run, RunWrites};
 ghost use Rattle.run_streams.specs.WholeStores.{IsWholeStore, KeepsStore, KeepStore};
 
@@ -102,14 +101,12 @@ pub fn streams_of_a_run()
         → (done : HasDoneJob kind before after sink sink' status)
         → before.depot.held ≡ Some objects
         → HasInput kind streams before.files (past_of done.store) (past_of done.new)
-        → All IsEntry (past_of done.new)
         → IsOfStreams (numbers_of done.store.profile) streams (past_of done.store)
         → IsOfStreams (numbers_of done.store.profile) streams (past_of done.new)
         ⊎ Collide (numbers_of done.store.profile) streams (past_of done.new) (IsGiven (held objects ∷ []) (past_of done.new)) }
     ensures recorded { (input name : List ℕ) (streams : Streams) (before after : Shelves) (sink sink' : SinkView) (status : ℕ)
         → (done : HasDoneJob (Backup input name) before after sink sink' status)
         → HasInput (Backup input name) streams before.files (past_of done.store) (past_of done.new)
-        → All IsEntry (past_of done.new)
         → IsOfStreams (numbers_of done.store.profile) streams (past_of done.store)
         → (reads : List Given) × ReadsMore done.opened.depot after.depot reads
         × (IsOfStreams (numbers_of done.store.profile) streams (past_of done.new)
@@ -131,13 +128,11 @@ pub fn written_by_a_run()
         → (done : HasDoneJob (Backup input name) before after sink sink' status)
         → before.depot.held ≡ Some objects
         → HasInput (Backup input name) streams before.files (past_of done.store) (past_of done.new)
-        → All IsEntry (past_of done.new)
         → IsOfStreams (numbers_of done.store.profile) streams (past_of done.store)
         → RunWrites (numbers_of done.store.profile) streams (held objects ∷ []) (past_of done.store) (past_of done.new) (map (made done.author) done.points) done.ending.kept before.depot after.depot }
     ensures recorded { (input name : List ℕ) (streams : Streams) (before after : Shelves) (sink sink' : SinkView) (status : ℕ)
         → (done : HasDoneJob (Backup input name) before after sink sink' status)
         → HasInput (Backup input name) streams before.files (past_of done.store) (past_of done.new)
-        → All IsEntry (past_of done.new)
         → IsOfStreams (numbers_of done.store.profile) streams (past_of done.store)
         → (reads : List Given) × ReadsMore done.opened.depot after.depot reads
         × RunWrites (numbers_of done.store.profile) streams (recorded reads ∷ []) (past_of done.store) (past_of done.new) (map (made done.author) done.points) done.ending.kept before.depot after.depot }
@@ -210,15 +205,13 @@ pub fn stores_stay_whole()
 
 /// Where the append of its entries failed, a run from a whole store leaves each manifest still whole that is live in the
 /// history that was found and in the one with these entries: its text and its places are as they were. Behind the journal
-/// a front of the entries' texts may stand. A backup's stream is its input's bytes, and its entries are asked to be within
-/// the bounds of a journal's. It runs nothing.
+/// a front of the entries' texts may stand. A backup's stream is its input's bytes. It runs nothing.
 pub fn live_stays_whole_unkept()
     ensures { (kind : JobKind) (streams : Streams) (store : StateView) (before after : Shelves) (sink sink' : SinkView) (status : ℕ) (fault : AppendFault)
         → (done : HasDoneJob kind before after sink sink' status)
         → done.ending.kept ≡ Err fault
         → (is : IsWholeStore streams before.depot store)
         → HasInput kind streams before.files (past_of done.store) (past_of done.new)
-        → EntriesFit kind (past_of done.new)
         → KeepsLive (numbers_of store.profile) streams (past_of store) (past_of done.new) (map (made done.author) done.points) is.objects after.depot }
 {}
 
@@ -236,14 +229,13 @@ pub fn restores_are_answered()
         → IsAnswered done.store done.new done.job.result }
 {}
 
-/// So is a backup, of a file that is told: from a whole store, where its entries were kept and no count of faults rose in
-/// the job, it tells of no fault and no damage. It runs nothing.
+/// So is a backup, of a file that is told: from a whole store, where no count of faults rose in the job, it tells of no
+/// fault and no damage. It runs nothing.
 pub fn backups_are_answered()
     ensures { (streams : Streams) (store : StateView) (input name : List ℕ) (before after : Shelves) (sink sink' : SinkView) (status : ℕ)
         → (done : HasDoneJob (Backup input name) before after sink sink' status)
         → IsWholeStore streams before.depot store
         → HasInput (Backup input name) streams before.files (past_of done.store) (past_of done.new)
-        → done.ending.kept ≡ Ok tt
         → NoneFailed done.opened done.done
         → IsNoFault done.job.result }
 {}

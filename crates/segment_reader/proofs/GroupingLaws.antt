@@ -23,17 +23,6 @@ use Rattle.segment_reader.specs.Whole.{whole_chunks, has_end, has_segment}
 use Rattle.segment_reader.specs.Grouping.{numbers_in, bytes_in, IsCutSoFar, IsInStep, HasNone}
 use Rattle.segment_reader.proofs.WholeLaws.{whole_chunks-first, whole_chunks-none, has_end-none}
 
--- before the first chunk
-pub IsCutSoFar-start : (n : Numbers) (bytes : List ℕ) → IsCutSoFar n [] bytes
-IsCutSoFar-start n bytes = record { all = λ more. refl; ended = λ more. refl }
-
--- more bytes came
-pub IsCutSoFar-push : (n : Numbers) (chunks : List (List ℕ)) (bytes piece : List ℕ) → IsCutSoFar n chunks bytes → IsCutSoFar n chunks (bytes ++ piece)
-IsCutSoFar-push n chunks bytes piece so = record {
-  all = λ more. subst (λ (l : List ℕ). cut n (concat chunks ++ l) ≡ chunks ++ cut n l) (sym (append_assoc bytes piece more)) (so.all (piece ++ more));
-  ended = λ more. subst (λ (l : List ℕ). whole_chunks n (concat chunks ++ l) ≡ chunks ++ whole_chunks n l) (sym (append_assoc bytes piece more)) (so.ended (piece ++ more));
-}
-
 -- the bytes of one more chunk
 pub concat-more : (chunks : List (List ℕ)) (chunk rest : List ℕ) → concat (chunks ++ chunk ∷ []) ++ rest ≡ concat chunks ++ (chunk ++ rest)
 concat-more chunks chunk rest =
@@ -78,14 +67,6 @@ IsPending-push p q chunk pending some most never same is =
       sizes = All-push (IsChunk p.numbers) p.chunks chunk pending.sizes (omega arith, most);
       none_ends = NonePasses-push p.numbers p.chunks chunk pending.none_ends (not_true (ends_behind p.numbers (length p.chunks + 1) (name_of_bytes chunk)) never);
     } in
-    let equal : now ≡ q = λ i. record { numbers = sym same i; chunks = sym is i } in
-    subst IsPending equal kept
-
--- no chunk pends
-IsPending-none : (n : Numbers) (q : Pending) → AreSound n → q.numbers ≡ n → q.chunks ≡ [] → IsPending q
-IsPending-none n q sound same is =
-    let now : Pending = record { numbers = n; chunks = [] } in
-    let kept : IsPending now = record { sound = sound; sizes = λ k d lt. absurd (omega arith); none_ends = record { none = λ j from to. absurd (omega arith) } } in
     let equal : now ≡ q = λ i. record { numbers = sym same i; chunks = sym is i } in
     subst IsPending equal kept
 

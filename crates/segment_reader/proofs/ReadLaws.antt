@@ -2,7 +2,7 @@
 use Rattle.std.proofs.Common.{◌≡◌, ℕ, ◌+◌, ◌*◌, ◌<◌, ◌≤◌, true, false, List, [], ◌++◌, length, Option, Some, None, refl, sym, ap, ◌∙◌, subst, arith, lit≤, append_assoc, length-append}
 use Rattle.std.specs.Prelude.{MatchOption}
 use Rattle.std.specs.Io.KnownBytes.{Keeps}
-use Rattle.std.proofs.KnownBytes.{Consumes-nil, Consumes-trans, Consumes-kept}
+use Rattle.std.proofs.KnownBytes.{Consumes-trans, Consumes-kept}
 use Rattle.std.proofs.lemmas.Bool.{false≢true}
 use Rattle.std.proofs.lemmas.List.{append-nil}
 use Rattle.ss_base.specs.declared.profile.Numbers.{Numbers}
@@ -14,7 +14,7 @@ use Rattle.segment_reader.specs.declared.grouping.Grouping.{Grouping}
 use Rattle.segment_reader.specs.Grouping.{numbers_in, bytes_in, HasNone}
 use Rattle.segment_reader.specs.Whole.{has_segment, above_pending}
 use Rattle.segment_reader.specs.Next.{IsNext}
-use Rattle.segment_reader.specs.Reads.{unread, read, IsRead}
+use Rattle.segment_reader.specs.Reads.{read, IsRead}
 use Rattle.segment_reader.specs.Cause.{next_fault, EndsWithin, EndsAbove, EndsFor}
 use Rattle.segment_reader.specs.Found.{HasFound}
 

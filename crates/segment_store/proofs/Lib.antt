@@ -1,3 +1,4 @@
+pub mod CopyLaws
 pub mod LoadLaws
 pub mod UseLaws
 pub mod StoreLaws

@@ -1,26 +1,23 @@
 -- What a plan of a segment stores, and that a commit can record it.
-use Rattle.std.proofs.Common.{◌≡◌, ℕ, ◌+◌, ◌^◌, ◌<◌, true, List, map, length, vec_len, refl, ap, ◌∙◌, subst, arith}
+use Rattle.std.proofs.Common.{◌≡◌, ℕ, ◌+◌, ◌^◌, ◌<◌, true, List, length, vec_len, ap, subst, arith}
 use Rattle.std.proofs.lemmas.Bool.{and_from, le-leb}
 use Rattle.ss_base.specs.declared.ids.ManifestId.{ManifestId}
 use Rattle.ss_base.specs.declared.object.Object.TheVariants.{Manifest as ManifestObject}
 use Rattle.ss_base.specs.ObjectName.{object_text}
-use Rattle.chunk_name.specs.Pieces.{name_of_bytes}
 use Rattle.segmenter.specs.declared.segment.Segment.{Segment}
 use Rattle.journal_entry.specs.Bounds.{are_counts, most_chunks, most_bytes}
 use Rattle.container_file.specs.declared.container_end.ContainerEnd.{ContainerEnd}
-use Rattle.container_file.specs.Layout.{written, Written as PutBytes}
+use Rattle.container_file.specs.Layout.{Written as PutBytes}
 use Rattle.segment_plan.specs.declared.segment_plan.SegmentPlan.{SegmentPlan}
 use Rattle.segment_plan.specs.Plan.{Located, puts_against}
-use Rattle.segment_plan.specs.Planned.{segment_chunks, puts_len, IsPlanOf, HasCounts, CanBeStored}
-use Rattle.segment_plan.proofs.PutLaws.{puts-written}
+use Rattle.segment_plan.specs.Planned.{segment_chunks, IsPlanOf, HasCounts, CanBeStored}
 use Rattle.outside.specs.Shelf.{CreateLeaves}
 use Rattle.outside.specs.Views.{ShelfView}
 use Rattle.outside.specs.declared.trouble.Trouble.{Trouble}
-use Rattle.depot.specs.Calls.{after_create, HasFailed}
+use Rattle.depot.specs.Calls.{HasFailed}
 use Rattle.depot.specs.Storing.{after_puts, IsStopped}
-use Rattle.depot.specs.Tokens.{WrittenView}
-use Rattle.segment_store.specs.Stored.{after_segment, bytes_put, GoesOn, CanBeCommitted, stored_by}
-use Rattle.segment_store.specs.Storing.{IsStored, NotStored, PlanFailed}
+use Rattle.segment_store.specs.Stored.{GoesOn, CanBeCommitted, stored_by}
+use Rattle.segment_store.specs.Storing.{NotStored, PlanFailed}
 use Rattle.segment_store.specs.Storing.NotStored.{put_failed, write_failed}
 use Rattle.segment_store.specs.Storing.PlanFailed.{put_stopped, write_stopped}
 use Rattle.segment_store.proofs.UseLaws.{ascending_is}
@@ -36,20 +33,6 @@ plan_failed id chunks manifests end room plan shelf shelf' texts texts' trouble 
     write_failed is.end same
     (subst (λ (text : List ℕ). HasFailed (λ old new. CreateLeaves old new name text) (after_puts shelf (puts_against chunks manifests end room)) shelf' trouble) is.text
     (subst (λ (ps : List PutBytes). HasFailed (λ old new. CreateLeaves old new name plan.text.items) (after_puts shelf ps) shelf' trouble) is.puts failed))
-
--- what shows that it is written
-abbrev pub written_by : ManifestId → SegmentPlan → WrittenView
-written_by id plan = record { id = id; sum = puts_len plan.puts.items; text = name_of_bytes plan.text.items }
-
-abbrev pub plan_stored : ShelfView → ManifestId → SegmentPlan → ShelfView
-plan_stored shelf id plan = after_create (after_puts shelf (map written plan.puts.items)) (object_text (ManifestObject id)) plan.text.items
-
-plan_shelf : (id : ManifestId) (chunks : List (List ℕ)) (manifests : List Located) (end : ContainerEnd) (room : ℕ) (plan : SegmentPlan) (shelf : ShelfView)
-    → IsPlanOf chunks manifests end room plan → plan_stored shelf id plan ≡ after_segment shelf id chunks manifests end room
-plan_shelf id chunks manifests end room plan shelf is =
-    let name = object_text (ManifestObject id) in
-    ap (λ (ps : List PutBytes). after_create (after_puts shelf ps) name plan.text.items) is.puts
-    ∙ ap (λ (text : List ℕ). after_create (after_puts shelf (puts_against chunks manifests end room)) name text) is.text
 
 -- containers go on by at most one for each piece
 pub plan_goes_on : (segment : Segment) (manifests : List Located) (end : ContainerEnd) (room : ℕ) (plan : SegmentPlan)

@@ -29,7 +29,8 @@ use Rattle.segment_plan.proofs.LieLaws.{Contains-from_in}
 use Rattle.store_core.specs.View.{KeptView, kept_by, kept, all_kept}
 use Rattle.store_core.specs.declared.values.Stored.{Stored}
 use Rattle.outside.specs.Views.{ShelfView}
-use Rattle.segment_store.specs.Loads.{after_load, AreLoaded}
+use Rattle.segment_store.specs.Loads.{Holding, after_turn, AreLoaded}
+use Rattle.segment_store.proofs.LoadLaws.{like_kept}
 use Rattle.segment_store.specs.Stored.{CanBeCommitted}
 
 -- ---- ascending
@@ -79,13 +80,13 @@ use_of_any ids past view use_of among there =
     in_any (λ (id : ManifestId). has (lists_use id use_of) past) from.0 ids from.1 (has_listed from.0 past view use_of from.2 there)
 
 -- what was kept of a manifest that was loaded
-kept_for : (shelf : ShelfView) (kepts : List KeptView) (manifests : List Manifest) → AreLoaded shelf kepts manifests → (manifest : Manifest) → In manifest manifests →
+kept_for : (holds : Holding) (shelf : ShelfView) (kepts : List KeptView) (manifests : List Manifest) → AreLoaded holds shelf kepts manifests → (manifest : Manifest) → In manifest manifests →
     (view : KeptView) × In view kepts × AreContainers manifest.places.items view.uses
-kept_for shelf [] [] are manifest there = absurd there
-kept_for shelf [] (m ∷ ms) are manifest there = absurd are
-kept_for shelf (k ∷ ks) [] are manifest there = absurd there
-kept_for shelf (k ∷ ks) (m ∷ ms) are manifest (inl same) = (k, inl refl, subst (λ (x : Manifest). AreContainers x.places.items k.uses) same are.0.like.uses)
-kept_for shelf (k ∷ ks) (m ∷ ms) are manifest (inr later) = let rest = kept_for (after_load shelf k m) ks ms are.1 manifest later in (rest.0, inr rest.1, rest.2)
+kept_for holds shelf [] [] are manifest there = absurd there
+kept_for holds shelf [] (m ∷ ms) are manifest there = absurd are
+kept_for holds shelf (k ∷ ks) [] are manifest there = absurd there
+kept_for holds shelf (k ∷ ks) (m ∷ ms) are manifest (inl same) = (k, inl refl, subst (λ (x : Manifest). AreContainers x.places.items k.uses) same (like_kept holds shelf k m are.0).uses)
+kept_for holds shelf (k ∷ ks) (m ∷ ms) are manifest (inr later) = let rest = kept_for holds (after_turn holds shelf k m) ks ms are.1 manifest later in (rest.0, inr rest.1, rest.2)
 
 -- ---- the uses
 
@@ -93,36 +94,36 @@ own_is : (session containers : ℕ) (id : ContainerId) → id.session ≡ sessio
 own_is session containers id is started few = and_from _ _ (eq-eqb id.session session is) (lt-ltb id.ordinal 4294967295 (omega arith))
 
 -- a container of one of the manifests is a use of one of the champions
-pub of_champion : (past : List Entry) (session : ℕ) (kepts : List KeptView) (shelf : ShelfView) (manifests : List Manifest)
-    → kepts ≡ all_kept (pending_champions session past) past → AreLoaded shelf kepts manifests
+pub of_champion : (past : List Entry) (session : ℕ) (kepts : List KeptView) (holds : Holding) (shelf : ShelfView) (manifests : List Manifest)
+    → kepts ≡ all_kept (pending_champions session past) past → AreLoaded holds shelf kepts manifests
     → (id : ContainerId) → IsOfManifest (located manifests) id → is_use_of_any (pending_champions session past) past id ≡ true
-of_champion past session kepts shelf manifests kepts_are loaded id of =
+of_champion past session kepts holds shelf manifests kepts_are loaded id of =
     let champions = pending_champions session past in
     let from = map_in (λ (m : Manifest). record { pieces = m.pieces.items; places = m.places.items }) of.manifest manifests (in_Contains of.manifest (located manifests) of.there) in
-    let view = kept_for shelf kepts manifests loaded from.0 from.1 in
+    let view = kept_for holds shelf kepts manifests loaded from.0 from.1 in
     let there : Contains (map (λ p. p.container) from.0.places.items) id = subst (λ (l : Located). Contains (map (λ p. p.container) l.places) id) (sym from.2) of.container in
     use_of_any champions past view.0 id (subst (λ (ks : List KeptView). In view.0 ks) kepts_are view.1) (in_Contains id view.0.uses (view.2.each id there))
 
-may_use : (past : List Entry) (end : ContainerEnd) (kepts : List KeptView) (shelf : ShelfView) (manifests : List Manifest)
-    → kepts ≡ all_kept (pending_champions end.session past) past → AreLoaded shelf kepts manifests → end.containers < 2 ^ 32
+may_use : (past : List Entry) (end : ContainerEnd) (kepts : List KeptView) (holds : Holding) (shelf : ShelfView) (manifests : List Manifest)
+    → kepts ≡ all_kept (pending_champions end.session past) past → AreLoaded holds shelf kepts manifests → end.containers < 2 ^ 32
     → (id : ContainerId) → MayUse (located manifests) end id → is_use end.session (pending_champions end.session past) past id ≡ true
 unfolding is_use
-may_use past end kepts shelf manifests kepts_are loaded few id (inl own) = or_left _ _ (own_is end.session end.containers id own.session own.started few)
-may_use past end kepts shelf manifests kepts_are loaded few id (inr of) =
-    or_right _ (is_use_of_any (pending_champions end.session past) past id) (of_champion past end.session kepts shelf manifests kepts_are loaded id of)
+may_use past end kepts holds shelf manifests kepts_are loaded few id (inl own) = or_left _ _ (own_is end.session end.containers id own.session own.started few)
+may_use past end kepts holds shelf manifests kepts_are loaded few id (inr of) =
+    or_right _ (is_use_of_any (pending_champions end.session past) past id) (of_champion past end.session kepts holds shelf manifests kepts_are loaded id of)
 
 all_from : {X : Type 0} (p : X → Bool) (xs : List X) → ((x : X) → In x xs → p x ≡ true) → list_all p xs ≡ true
 all_from p [] each = refl
 all_from p (x ∷ xs) each = and_from (p x) (list_all p xs) (each x (inl refl)) (all_from p xs (λ y there. each y (inr there)))
 
-pub uses_allowed : (past : List Entry) (end : ContainerEnd) (kepts : List KeptView) (shelf : ShelfView) (manifests : List Manifest) (stored : Stored)
-    → kepts ≡ all_kept (pending_champions end.session past) past → AreLoaded shelf kepts manifests → CanBeCommitted (located manifests) end stored
+pub uses_allowed : (past : List Entry) (end : ContainerEnd) (kepts : List KeptView) (holds : Holding) (shelf : ShelfView) (manifests : List Manifest) (stored : Stored)
+    → kepts ≡ all_kept (pending_champions end.session past) past → AreLoaded holds shelf kepts manifests → CanBeCommitted (located manifests) end stored
     → are_uses end.session past stored.uses.items ≡ true
 unfolding are_uses
-uses_allowed past end kepts shelf manifests stored kepts_are loaded can =
+uses_allowed past end kepts holds shelf manifests stored kepts_are loaded can =
     let uses = stored.uses.items in
     let champions = pending_champions end.session past in
     and_from (are_ascending uses) _ can.ascending
     (and_from _ (list_all (is_use end.session champions past) uses) (le-leb (length uses) most_uses can.most)
     (all_from (is_use end.session champions past) uses
-    (λ id there. may_use past end kepts shelf manifests kepts_are loaded can.few id (can.each id (Contains-from_in id uses there)))))
+    (λ id there. may_use past end kepts holds shelf manifests kepts_are loaded can.few id (can.each id (Contains-from_in id uses there)))))

@@ -9,15 +9,15 @@ ghost use Rattle.history.specs.Legal.{are_uses};
 ghost use Rattle.store_core.specs.View.{KeptView, all_kept};
 ghost use Rattle.store_core.specs.declared.values.Stored.{Stored};
 ghost use Rattle.outside.specs.Views.{ShelfView};
-ghost use Rattle.segment_store.specs.Loads.{AreLoaded};
+ghost use Rattle.segment_store.specs.Loads.{Holding, AreLoaded};
 ghost use Rattle.segment_store.specs.Stored.{CanBeCommitted};
 
 /// A commit of the session may list the uses of a segment that was stored against the manifests of its pending
 /// champions. It runs nothing.
 pub fn uses_of_a_segment()
-    ensures { (past : List Entry) (end : ContainerEnd) (kepts : List KeptView) (shelf : ShelfView) (manifests : List Manifest) (stored : Stored)
+    ensures { (past : List Entry) (end : ContainerEnd) (kepts : List KeptView) (holds : Holding) (shelf : ShelfView) (manifests : List Manifest) (stored : Stored)
         → kepts ≡ all_kept (pending_champions end.session past) past
-        → AreLoaded shelf kepts manifests
+        → AreLoaded holds shelf kepts manifests
         → CanBeCommitted (located manifests) end stored
         → are_uses end.session past stored.uses.items ≡ true }
 {}

@@ -2,11 +2,12 @@
 // program.
 ghost use Rattle.std.specs.Prelude.{◌≡◌, ◌≤◌, length};
 
-use crate::test_state::{container, kept_of, state_of, stored_with};
+use crate::test_state::{container, kept_of, state_of, state_of_both, stored_with};
 use crate::{load_champions, store_segment, uses_of_a_segment};
 use chunk_name::{hex_of, name_of};
 use container_file::ContainerEnd;
 use depot::{Depot, LoadFault};
+use manifest_cache::ManifestCache;
 use manifest_codec::Manifest;
 use outside::{MemShelf, Shelf, Trouble};
 use segmenter::{Segment, Segmenter};
@@ -79,7 +80,19 @@ fn load(
     shelf: &mut MemShelf,
     champions: &[Kept],
 ) -> Result<Vec<Manifest>, LoadFault> {
-    load_champions(alloc, &mut Depot::over(shelf), champions)
+    let Ok(mut cache) = ManifestCache::new(alloc, 1) else {
+        return Err(LoadFault::Memory);
+    };
+    load_with(alloc, shelf, champions, &mut cache)
+}
+
+fn load_with(
+    alloc: Global,
+    shelf: &mut MemShelf,
+    champions: &[Kept],
+    cache: &mut ManifestCache,
+) -> Result<Vec<Manifest>, LoadFault> {
+    load_champions(alloc, &mut Depot::over(shelf), champions, cache)
 }
 
 fn end(session: u32, containers: u32, used: u32) -> ContainerEnd
@@ -103,7 +116,7 @@ fn counts(stored: &Stored) -> [u32; 4] {
 }
 
 fn is_used_alone(stored: &Stored) -> bool {
-    stored.uses.as_slice() == [container()].as_slice()
+    stored.uses.as_slice() == [container(0)].as_slice()
 }
 
 fn has_digits(alloc: Global, name: &Name, digits: &str) -> Result<bool, Memory> {
@@ -156,7 +169,7 @@ fn a_segment_is_stored_and_loaded_again(rt: HostRuntime) -> Result<(), Fail> {
     assert!(rt; holds(alloc, &shelf, "c-0-0", container_text())?);
     assert!(rt; holds(alloc, &shelf, "m-0-0", text())?);
     let mut state = state_of(alloc, stored)?;
-    let kept = [kept_of(alloc, &mut state)?];
+    let kept = [kept_of(alloc, &mut state, 0)?];
     let champions = load(alloc, &mut shelf, &kept).ok().ok_or("not loaded")?;
     store_again(&rt, alloc, &mut shelf, &champions)
 }
@@ -201,8 +214,75 @@ fn a_load_that_fails_is_the_last(rt: HostRuntime) -> Result<(), Fail> {
     let alloc = rt.alloc();
     let want = name_of(b"b");
     let mut state = state_of(alloc, stored_with(alloc, want)?)?;
-    let kept = [kept_of(alloc, &mut state)?, kept_of(alloc, &mut state)?];
+    let kept = [
+        kept_of(alloc, &mut state, 0)?,
+        kept_of(alloc, &mut state, 0)?,
+    ];
     load_fails(&rt, alloc, &kept, b"b", LoadFault::Unlike { text: want })?;
     let got = name_of(b"c");
     load_fails(&rt, alloc, &kept, b"c", LoadFault::Damaged { want, got })
+}
+
+// Two sessions store the two chunks, each by two calls. What is kept of the manifest of each.
+fn store_twice(alloc: Global, shelf: &mut MemShelf) -> Result<(Vec<Kept>, Vec<Kept>), Fail> {
+    let first = store(alloc, shelf, 0, &[])?;
+    let second = store(alloc, shelf, 1, &[])?;
+    let first = first.stored.ok().ok_or("not stored")?;
+    let second = second.stored.ok().ok_or("not stored")?;
+    let mut state = state_of_both(alloc, first, second)?;
+    let first = vec![in alloc; kept_of(alloc, &mut state, 0)?]?;
+    let second = vec![in alloc; kept_of(alloc, &mut state, 1)?]?;
+    Ok((first, second))
+}
+
+fn is_same(one: &[Manifest], other: &[Manifest]) -> bool {
+    match (one, other) {
+        ([one], [other]) => {
+            one.pieces.as_slice() == other.pieces.as_slice()
+                && one.places.as_slice() == other.places.as_slice()
+        }
+        _ => false,
+    }
+}
+
+// Only the first load makes a call, the shelf's fifth: the test makes the sixth, which fails.
+#[test]
+fn a_manifest_is_loaded_once(rt: HostRuntime) -> Result<(), Fail> {
+    let alloc = rt.alloc();
+    let mut shelf = shelf_with(alloc, 6)?;
+    let (first, _second) = store_twice(alloc, &mut shelf)?;
+    let mut cache = ManifestCache::new(alloc, 64)?;
+    let loaded = load_with(alloc, &mut shelf, &first, &mut cache);
+    let again = load_with(alloc, &mut shelf, &first, &mut cache);
+    let loaded = loaded.ok().ok_or("not loaded")?;
+    let again = again.ok().ok_or("not held")?;
+    assert!(rt; is_same(&loaded, &again));
+    assert!(rt; shelf.has("m-0-0").is_err());
+    Ok(())
+}
+
+// Loads the manifests, and the cache then has one.
+fn load_into_one(
+    rt: &impl Abort,
+    alloc: Global,
+    shelf: &mut MemShelf,
+    kept: &[Kept],
+    cache: &mut ManifestCache,
+) {
+    assert!(rt; load_with(alloc, shelf, kept, cache).is_ok());
+    assert!(rt; cache.len() == 1);
+}
+
+// Each of three loads makes a call: the shelf's eighth, which fails, is the test's.
+#[test]
+fn a_cache_of_one_manifest_is_asked_for_two_in_turn(rt: HostRuntime) -> Result<(), Fail> {
+    let alloc = rt.alloc();
+    let mut shelf = shelf_with(alloc, 8)?;
+    let (first, second) = store_twice(alloc, &mut shelf)?;
+    let mut cache = ManifestCache::new(alloc, 1)?;
+    load_into_one(&rt, alloc, &mut shelf, &first, &mut cache);
+    load_into_one(&rt, alloc, &mut shelf, &second, &mut cache);
+    load_into_one(&rt, alloc, &mut shelf, &first, &mut cache);
+    assert!(rt; shelf.has("m-0-0").is_err());
+    Ok(())
 }

@@ -105,7 +105,7 @@ module _ (chosen : ChosenView) (before after : Extent) (waiting : IsWaiting chos
     uses_are =
         let same : after.end.session ≡ chosen.session = on.session ∙ waiting.session in
         subst (λ (s : ℕ). are_uses s (past_of chosen.seen) stored.uses.items ≡ true) same
-        (uses_allowed (past_of chosen.seen) after.end chosen.choice.champions.items shelf for.manifests stored
+        (uses_allowed (past_of chosen.seen) after.end chosen.choice.champions.items for.holds shelf for.manifests stored
         (subst (λ (s : ℕ). chosen.choice.champions.items ≡ all_kept (pending_champions s (past_of chosen.seen)) (past_of chosen.seen)) (sym same) waiting.at.kept)
         for.loaded for.can)
 
@@ -128,7 +128,7 @@ module _ (chosen : ChosenView) (before after : Extent) (waiting : IsWaiting chos
         | inr of ↦
             let past = past_of chosen.seen in
             let legal = legal_seen others standings champions chosen.author chosen.seen has.at_turn.turn has.at_turn.is_turn in
-            let used = of_champion past chosen.session chosen.choice.champions.items shelf for.manifests waiting.at.kept for.loaded id of in
+            let used = of_champion past chosen.session chosen.choice.champions.items for.holds shelf for.manifests waiting.at.kept for.loaded id of in
             let below = listed_below _ past id legal (use_of_any (pending_champions chosen.session past) past id used) in
             let mine : id.ordinal < own_end chosen.session past = subst (λ (s : ℕ). id.ordinal < own_end s past) own below in
             let known = waiting.at.at.used in

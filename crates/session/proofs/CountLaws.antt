@@ -1,5 +1,5 @@
 -- The depot's count of faults over loads, puts and a manifest.
-use Rattle.std.proofs.Common.{◌≡◌, ℕ, Bool, true, false, List, [], ◌∷◌, refl, sym, ap, ◌∙◌, subst, inl, inr, if◌then◌else◌, Err}
+use Rattle.std.proofs.Common.{◌≡◌, ℕ, Bool, true, false, List, [], ◌∷◌, refl, sym, ap, ◌∙◌, subst, inl, inr, if◌then◌else◌, Err, Option, None, Some, is_some}
 use Rattle.manifest_codec.specs.declared.manifest.Manifest.{Manifest}
 use Rattle.ss_base.specs.declared.ids.ManifestId.{ManifestId}
 use Rattle.container_file.specs.Layout.{Written as PutBytes}
@@ -15,16 +15,21 @@ use Rattle.depot.specs.Calls.{after_create, after_append, CountsTrouble}
 use Rattle.depot.specs.Loading.{LoadAnswer}
 use Rattle.depot.specs.Storing.{put_name, after_put, after_puts}
 use Rattle.depot.specs.Tokens.{WrittenView}
-use Rattle.segment_store.specs.Loads.{after_load, after_loads, IsStopped}
+use Rattle.manifest_cache.specs.Cached.{held}
+use Rattle.segment_store.specs.Loads.{Entries, Holding, after_load, after_turn, after_loads, IsStopped}
 use Rattle.segment_store.specs.Storing.{Progress, IsStored, NotStored}
 use Rattle.segment_store.specs.Storing.NotStored.{not_planned, put_failed, write_failed}
 use Rattle.session.specs.Causes.{of_load, of_depot, DepotCount}
 
-pub loads_quiet : (shelf : ShelfView) (kepts : List KeptView) (manifests : List Manifest) → (after_loads shelf kepts manifests).faults ≡ shelf.faults
-loads_quiet shelf [] [] = refl
-loads_quiet shelf [] (m ∷ ms) = refl
-loads_quiet shelf (k ∷ ks) [] = refl
-loads_quiet shelf (k ∷ ks) (m ∷ ms) = loads_quiet (after_load shelf k m) ks ms
+turn_quiet : (o : Option Located) (shelf : ShelfView) (kept : KeptView) (manifest : Manifest) → (if is_some o then shelf else after_load shelf kept manifest).faults ≡ shelf.faults
+turn_quiet None shelf kept manifest = refl
+turn_quiet (Some one) shelf kept manifest = refl
+
+pub loads_quiet : (holds : Holding) (shelf : ShelfView) (kepts : List KeptView) (manifests : List Manifest) → (after_loads holds shelf kepts manifests).faults ≡ shelf.faults
+loads_quiet holds shelf [] [] = refl
+loads_quiet holds shelf [] (m ∷ ms) = refl
+loads_quiet holds shelf (k ∷ ks) [] = refl
+loads_quiet holds shelf (k ∷ ks) (m ∷ ms) = loads_quiet holds (after_turn holds shelf k m) ks ms ∙ turn_quiet (holds k) shelf k m
 
 put_quiet : (shelf : ShelfView) (put : PutBytes) (starts : Bool) → (if starts then after_create shelf (put_name put) put.bytes else after_append shelf (put_name put) put.bytes).faults ≡ shelf.faults
 put_quiet shelf put true = refl
@@ -47,10 +52,10 @@ load_count before after kept load.Memory (inl (inr called)) = ap (λ (s : ShelfV
 load_count before after kept load.Memory (inr gave) = ap (λ (s : ShelfView). s.faults) gave.1.call
 
 -- loads of which one failed
-pub loads_count : (before after : ShelfView) (kepts : List KeptView) (fault : LoadFault) → IsStopped before after kepts fault → DepotCount (of_load fault) before.faults after.faults
-loads_count before after kepts fault stopped =
-    subst (λ (count : ℕ). DepotCount (of_load fault) count after.faults) (loads_quiet before stopped.done stopped.manifests)
-    (load_count (after_loads before stopped.done stopped.manifests) after stopped.kept fault stopped.failed)
+pub loads_count : (cache cache' : Entries) (before after : ShelfView) (kepts : List KeptView) (fault : LoadFault) → IsStopped cache cache' before after kepts fault → DepotCount (of_load fault) before.faults after.faults
+loads_count cache cache' before after kepts fault stopped =
+    subst (λ (count : ℕ). DepotCount (of_load fault) count after.faults) (loads_quiet (held cache) before stopped.done stopped.manifests)
+    (load_count (after_loads (held cache) before stopped.done stopped.manifests) after stopped.kept fault stopped.failed)
 
 -- a segment that was not stored
 pub store_count : (id : ManifestId) (chunks : List (List ℕ)) (manifests : List Located) (room : ℕ) (before after : Progress) (trouble : Trouble) → NotStored id chunks manifests room before after trouble → DepotCount (of_depot trouble) before.shelf.faults after.shelf.faults

@@ -18,6 +18,7 @@ use Rattle.segment_reader.specs.declared.fault.NextFault.{NextFault}
 use Rattle.depot.specs.declared.fault.BackupFault.{BackupFault}
 use Rattle.history_calls.specs.Tokens.{IdleView}
 use Rattle.history_calls.specs.SessionSteps.{HasAborted}
+use Rattle.segment_store.specs.Loads.{Entries}
 use Rattle.session.specs.Causes.{of_next}
 use Rattle.session.specs.Stops.{HasGivenUp}
 use Rattle.session.specs.Runs.{HasCome, HasStoredStream, HasStoppedStream}
@@ -123,19 +124,19 @@ module _ (others : List Entry → Type 0) (standings champions : ℕ) (n : Numbe
     }
 
     -- the next segment was not given, and the session is given up
-    pub way_unread : (cause : NextFault) (fault : BackupFault) (idle : IdleView) (shelf : ShelfView) → fault ≡ of_next cause → shelf ≡ last.progress.shelf
+    pub way_unread : (cause : NextFault) (fault : BackupFault) (idle : IdleView) (shelf : ShelfView) (cache : Entries) → fault ≡ of_next cause → (shelf ≡ last.progress.shelf) × (cache ≡ last.progress.cache)
         → EndsFor cause work.numbers (work.limit - work.taken) work.bytes now after
         → HasAborted others standings champions last.caller last.progress.end.containers last.progress.texts idle
-        → HasStoppedStream others standings champions n start source after idle shelf fault
-    way_unread cause fault idle shelf is same ends aborted =
+        → HasStoppedStream others standings champions n start source after idle shelf cache fault
+    way_unread cause fault idle shelf cache is same ends aborted =
         reading way.segments now work last cause is same way.come
         (subst (λ (limit : ℕ). EndsFor cause n (limit - work.taken) work.bytes now after) way.come.split.limit
         (subst (λ (m : Numbers). EndsFor cause m (work.limit - work.taken) work.bytes now after) way.come.split.numbers ends))
         aborted
 
     -- it was given, and the session is given up in it
-    pub way_unstored : (fault : BackupFault) (idle : IdleView) (shelf : ShelfView) (segment : Segment) (gave : GaveSegment work work' now after segment)
-        → HasGivenUp others standings champions gave.next.chunks last idle shelf fault
-        → HasStoppedStream others standings champions n start source after idle shelf fault
-    way_unstored fault idle shelf segment gave given_up =
+    pub way_unstored : (fault : BackupFault) (idle : IdleView) (shelf : ShelfView) (cache : Entries) (segment : Segment) (gave : GaveSegment work work' now after segment)
+        → HasGivenUp others standings champions gave.next.chunks last idle shelf cache fault
+        → HasStoppedStream others standings champions n start source after idle shelf cache fault
+    way_unstored fault idle shelf cache segment gave given_up =
         storing way.segments gave.next.chunks work' last (split_more n source now after work work' way.segments way.come.split segment gave) way.come.stored given_up

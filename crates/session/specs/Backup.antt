@@ -11,6 +11,7 @@ use Rattle.depot.specs.declared.fault.BackupFault.TheVariants.{NoInput}
 use Rattle.history_calls.specs.Tokens.{IdleView, OpenView}
 use Rattle.history_calls.specs.SessionSteps.{HasBegun, HasNotBegun}
 use Rattle.store_core.specs.View.{StateView}
+use Rattle.segment_store.specs.Loads.{Entries}
 use Rattle.session.specs.Causes.{of_input, of_begin, InputAnswer, DepotAnswer}
 use Rattle.session.specs.Runs.{HasStreamed, HasNotStreamed}
 
@@ -39,31 +40,31 @@ pub record HasStarted (others : List Entry → Type 0) (standings champions : �
   pub begun : HasBegun others standings champions before name caller
 
 -- A backup stored its input's stream in a session of its own, which is the answer.
-pub record HasBackedUp (others : List Entry → Type 0) (standings champions : ℕ) (files : ShelfView) (input name : List ℕ) (before : IdleView) (depot : ShelfView) (after : IdleView) (depot' : ShelfView) (session : ℕ) : Type 0 where
+pub record HasBackedUp (others : List Entry → Type 0) (standings champions : ℕ) (files : ShelfView) (input name : List ℕ) (before : IdleView) (depot : ShelfView) (cache : Entries) (after : IdleView) (depot' : ShelfView) (cache' : Entries) (session : ℕ) : Type 0 where
   pub started : HasStarted others standings champions files input name before
-  pub streamed : HasStreamed others standings champions started.caller (input_view files input) depot after depot'
+  pub streamed : HasStreamed others standings champions started.caller (input_view files input) depot cache after depot' cache'
   pub session_is : session ≡ started.caller.session
 
 -- A backup failed: nothing was begun and the depot is as before, or a session was begun and given up.
-pub data HasNotBackedUp (others : List Entry → Type 0) (standings champions : ℕ) (files : ShelfView) (input name : List ℕ) (before : IdleView) (depot : ShelfView) (after : IdleView) (depot' : ShelfView) (fault : BackupFault) : Type 0 where
-  not_started : depot' ≡ depot → HasNotStarted others standings champions files input name before after fault
-      → HasNotBackedUp others standings champions files input name before depot after depot' fault
+pub data HasNotBackedUp (others : List Entry → Type 0) (standings champions : ℕ) (files : ShelfView) (input name : List ℕ) (before : IdleView) (depot : ShelfView) (cache : Entries) (after : IdleView) (depot' : ShelfView) (cache' : Entries) (fault : BackupFault) : Type 0 where
+  not_started : (depot' ≡ depot) × (cache' ≡ cache) → HasNotStarted others standings champions files input name before after fault
+      → HasNotBackedUp others standings champions files input name before depot cache after depot' cache' fault
   given_up : (started : HasStarted others standings champions files input name before)
-      → HasNotStreamed others standings champions started.caller (input_view files input) depot after depot' fault
-      → HasNotBackedUp others standings champions files input name before depot after depot' fault
+      → HasNotStreamed others standings champions started.caller (input_view files input) depot cache after depot' cache' fault
+      → HasNotBackedUp others standings champions files input name before depot cache after depot' cache' fault
 
-abbrev pub BackupAnswer : (List Entry → Type 0) → ℕ → ℕ → ShelfView → List ℕ → List ℕ → IdleView → ShelfView → IdleView → ShelfView → Result ℕ BackupFault → Type 0
-BackupAnswer others standings champions files input name before depot after depot' (Ok session) =
-    HasBackedUp others standings champions files input name before depot after depot' session
-BackupAnswer others standings champions files input name before depot after depot' (Err fault) =
-    HasNotBackedUp others standings champions files input name before depot after depot' fault
+abbrev pub BackupAnswer : (List Entry → Type 0) → ℕ → ℕ → ShelfView → List ℕ → List ℕ → IdleView → ShelfView → Entries → IdleView → ShelfView → Entries → Result ℕ BackupFault → Type 0
+BackupAnswer others standings champions files input name before depot cache after depot' cache' (Ok session) =
+    HasBackedUp others standings champions files input name before depot cache after depot' cache' session
+BackupAnswer others standings champions files input name before depot cache after depot' cache' (Err fault) =
+    HasNotBackedUp others standings champions files input name before depot cache after depot' cache' fault
 
 -- The same by a caller that has the history to itself, with a state before and after, and what shows of it: the files are
 -- only read, and a count of faults rose where it is the cause and is as before elsewhere.
-pub record HasRunAlone (standings champions author : ℕ) (files files' : ShelfView) (input name : List ℕ) (old new : StateView) (depot depot' : ShelfView) (result : Result ℕ BackupFault) : Type 0 where
+pub record HasRunAlone (standings champions author : ℕ) (files files' : ShelfView) (input name : List ℕ) (old new : StateView) (depot depot' : ShelfView) (cache cache' : Entries) (result : Result ℕ BackupFault) : Type 0 where
   pub after : IdleView
   pub after_is : after.seen ≡ new
-  pub answer : BackupAnswer (λ came. came ≡ []) standings champions files input name (record { author = author; seen = old }) depot after depot' result
+  pub answer : BackupAnswer (λ came. came ≡ []) standings champions files input name (record { author = author; seen = old }) depot cache after depot' cache' result
   pub files_are : OnlyReads files files'
   pub input_count : InputAnswer result files.faults files'.faults
   pub depot_count : DepotAnswer result depot.faults depot'.faults

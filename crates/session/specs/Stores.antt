@@ -14,20 +14,33 @@ use Rattle.outside.specs.Views.{ShelfView}
 use Rattle.depot.specs.Tokens.{WrittenView}
 use Rattle.history_calls.specs.Tokens.{OpenView, ChosenView}
 use Rattle.history_calls.specs.SessionSteps.{HasChosen, HasCommitted}
-use Rattle.segment_store.specs.Loads.{after_loads, AreLoaded}
-use Rattle.segment_store.specs.Storing.{Progress, IsStored}
+use Rattle.manifest_cache.specs.Cached.{held}
+use Rattle.segment_store.specs.Loads.{Entries, after_loads, AreLoaded, HasCached}
+use Rattle.segment_store.specs.Storing.{Progress as StoreProgress, IsStored}
+
+-- How far a session has stored: what is observed of the depot's shelf, how far its containers go, how many of its
+-- manifests were written or tried, and the entries of its cache.
+pub record Progress : Type 0 where
+  pub shelf : ShelfView
+  pub end : ContainerEnd
+  pub texts : ℕ
+  pub cache : Entries
+
+-- the same without the cache
+abbrev pub stored_part : Progress → StoreProgress
+stored_part progress = record { shelf = progress.shelf; end = progress.end; texts = progress.texts }
 
 -- How far a session has come: its caller, with what it has seen of the history, and what is stored.
 pub record Reached : Type 0 where
   pub caller : OpenView
   pub progress : Progress
 
--- a session that has stored nothing, over a depot's shelf
+-- a session that has stored nothing, over a depot's shelf and with this cache
 abbrev pub no_end : ℕ → ContainerEnd
 no_end session = record { session = session; containers = 0; used = 0 }
 
-abbrev pub at_start : OpenView → ShelfView → Reached
-at_start caller shelf = record { caller = caller; progress = record { shelf = shelf; end = no_end caller.session; texts = 0 } }
+abbrev pub at_start : OpenView → ShelfView → Entries → Reached
+at_start caller shelf cache = record { caller = caller; progress = record { shelf = shelf; end = no_end caller.session; texts = 0; cache = cache } }
 
 -- the hooks of a segment with these chunks, and how full a container may be, by the profile
 abbrev pub hooks_for : OpenView → List (List ℕ) → List Name
@@ -36,16 +49,21 @@ hooks_for caller chunks = hooks (numbers_of caller.seen.profile).bits (pieces ch
 abbrev pub room_for : OpenView → ℕ
 room_for caller = (numbers_of caller.seen.profile).room
 
--- once a choice's champions are loaded
-abbrev pub loaded_for : Choice → List Manifest → Progress → Progress
-loaded_for choice manifests before = record before { shelf = after_loads before.shelf choice.champions.items manifests }
+-- once the manifests of a choice's champions are there
+abbrev pub loaded_for : Choice → List Manifest → Progress → StoreProgress
+loaded_for choice manifests before = record {
+  shelf = after_loads (held before.cache) before.shelf choice.champions.items manifests;
+  end = before.end;
+  texts = before.texts;
+}
 
--- A segment with these chunks was stored for its choice: the champions' manifests were loaded, and it was planned
--- against them.
+-- A segment with these chunks was stored for its choice: the champions' manifests were held or loaded, and it was
+-- planned against them.
 pub record IsStoredFor (chunks : List (List ℕ)) (choice : Choice) (room : ℕ) (before after : Progress) (stored : Stored) (written : WrittenView) : Type 0 where
   pub manifests : List Manifest
-  pub loaded : AreLoaded before.shelf choice.champions.items manifests
-  pub stored_is : IsStored choice.manifest chunks (located manifests) room (loaded_for choice manifests before) after stored written
+  pub loaded : AreLoaded (held before.cache) before.shelf choice.champions.items manifests
+  pub caches : HasCached before.cache after.cache choice.champions.items manifests
+  pub stored_is : IsStored choice.manifest chunks (located manifests) room (loaded_for choice manifests before) (stored_part after) stored written
 
 -- Behind its choice a segment was stored and then committed.
 pub record HasStoredChosen (others : List Entry → Type 0) (standings champions : ℕ) (chunks : List (List ℕ)) (room : ℕ) (chosen : ChosenView) (before : Progress) (after : Reached) : Type 0 where

@@ -5,13 +5,16 @@ mod alone;
 mod caller;
 mod causes;
 mod segments;
+mod shared;
 mod storing;
 mod stream;
 
 pub use alone::backup_solo;
 pub use caller::backup;
+pub use manifest_cache::ManifestCache;
 pub use segment_reader::{NextFault, Work, next_segment};
 pub use segment_store::{load_champions, store_segment};
+pub use shared::backup_shared;
 
 #[cfg(test)]
 mod test_faults;

@@ -12,6 +12,7 @@ ghost use Rattle.session.specs.Stops.{NotStoredFor};
 use crate::causes::{of_depot, of_load};
 use container_file::ContainerEnd;
 use depot::{BackupFault, Depot, Written};
+use manifest_cache::ManifestCache;
 use outside::Shelf;
 use segment_store::{load_champions, store_segment};
 use segmenter::Segment;
@@ -61,13 +62,14 @@ pub(crate) fn store_for<K: Shelf>(
     choice: &Choice,
     room: u32,
     extent: &mut Extent,
+    cache: &mut ManifestCache,
 ) -> Result<(Stored, Written), BackupFault>
     ensures same_reference { (shelf_of depot.new).ghost_name ≡ (shelf_of depot.old).ghost_name }
     ensures answer { (chunks : List (List ℕ)) → HasChunks segment.now chunks → MatchResult result
         (λ both. IsStoredFor chunks choice.now room
-        (progress_of (seen ⟦<K as Shelf>⟧ depot.old) extent.old) (progress_of (seen ⟦<K as Shelf>⟧ depot.new) extent.new) both.0 both.1)
+        (progress_of (seen ⟦<K as Shelf>⟧ depot.old) extent.old cache.old.entries) (progress_of (seen ⟦<K as Shelf>⟧ depot.new) extent.new cache.new.entries) both.0 both.1)
         (λ fault. NotStoredFor chunks choice.now room
-        (progress_of (seen ⟦<K as Shelf>⟧ depot.old) extent.old) (progress_of (seen ⟦<K as Shelf>⟧ depot.new) extent.new) fault) }
+        (progress_of (seen ⟦<K as Shelf>⟧ depot.old) extent.old cache.old.entries) (progress_of (seen ⟦<K as Shelf>⟧ depot.new) extent.new cache.new.entries) fault) }
     ensures goes_on { GoesOn extent.old.end extent.new.end (vec_len segment.now.pieces) }
     ensures committed { IfOk result (λ both. CanCommitFor choice.now (seen ⟦<K as Shelf>⟧ depot.old) extent.new.end both.0 both.1) }
     ensures texts { MatchResult result (λ _. extent.new.texts ≡ extent.old.texts + 1)
@@ -78,7 +80,7 @@ pub(crate) fn store_for<K: Shelf>(
     if !extent.has_room(segment.pieces.len(), choice.champions.len()) {
         return Err(BackupFault::Memory);
     }
-    let manifests = match load_champions(alloc, depot, &choice.champions) {
+    let manifests = match load_champions(alloc, depot, &choice.champions, cache) {
         Ok(manifests) => manifests,
         Err(fault) => return Err(of_load(fault)),
     };

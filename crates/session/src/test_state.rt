@@ -4,6 +4,7 @@ use crate::test_lines::{have_lines, line_of};
 use chunk_name::{hex_of, name_of};
 use depot::{BackupFault, Depot};
 use history::Limits;
+use manifest_cache::ManifestCache;
 use outside::MemShelf;
 use ss_base::{Memory, Name, Profile, StreamName};
 use std::alloc::Global;
@@ -70,6 +71,7 @@ impl Fixture {
         let author = self.state.next_author().ok_or("an author")?;
         let name = StreamName::new(name.as_bytes()).ok_or("a name")?;
         let mut depot = Depot::over(&mut self.depot);
+        let mut cache = ManifestCache::new(alloc, 64)?;
         Ok(backup_solo(
             alloc,
             &mut self.state,
@@ -78,6 +80,7 @@ impl Fixture {
             input,
             name,
             &mut depot,
+            &mut cache,
         ))
     }
 

@@ -2,17 +2,17 @@
 use Rattle.std.specs.Prelude.{List, [], map, Option, None, Some}
 use Rattle.std.specs.HashMap as hash
 use Rattle.std.specs.declared.hash.BuildHasherDefault.{BuildHasherDefault}
-use Rattle.std.specs.declared.hash.FoldHasher.{FoldHasher}
 use Rattle.std.specs.FinMap as map
 use Rattle.arrayvec.specs.ArrayVec.{ArrayVec}
 use Rattle.ss_base.specs.declared.ids.Standing.{Standing}
 use Rattle.ss_base.specs.declared.name.Name.{Name}
 use Rattle.ss_base.specs.Ids.{same_name}
 use Rattle.sparse_index.specs.Lists.{Lists}
+use Rattle.sparse_index.specs.declared.last_bytes.LastBytes.{LastBytes}
 
 -- a list for each ready hook
 abbrev pub Kept : Type 0
-Kept = hash.HashMap Name (ArrayVec Standing) (BuildHasherDefault FoldHasher)
+Kept = hash.HashMap Name (ArrayVec Standing) (BuildHasherDefault LastBytes)
 
 -- what is kept for a hook
 abbrev pub kept_at : Kept → Name → Option (ArrayVec Standing)

@@ -9,10 +9,12 @@ ghost use Rattle.ss_base.specs.Standings.{in_front, promoted, without_manifest};
 ghost use Rattle.sparse_index.specs.Lists.{list_at, is_ready, HasRoom, Changes};
 
 use crate::kept::{is_kept, keep, list_of, promote_at, put_at, retire_at};
+use crate::last_bytes::NameMap;
 use arrayvec::ArrayVec;
 use ss_base::{ManifestId, Memory, Name, Standing};
 use std::alloc::Global;
 use std::collections::HashMap;
+use std::hash::BuildHasherDefault;
 use std::marker::Model;
 
 /// Which manifests stand at each hook, at most `L`, the most recently used first. Contracts see a map from names to
@@ -20,7 +22,7 @@ use std::marker::Model;
 /// kept for it; it stays ready.
 #[derive(Drop)]
 pub struct Index<const L: usize> {
-    lists: HashMap<Name, ArrayVec<Standing, L>>,
+    lists: NameMap<Name, ArrayVec<Standing, L>>,
 }
 
 impl<const L: usize> Model for Index<L> {
@@ -44,7 +46,7 @@ impl<const L: usize> Index<L> {
         ensures { result ≡ map.empty }
     {
         Index {
-            lists: HashMap::new(alloc),
+            lists: HashMap::with_hasher(alloc, BuildHasherDefault::new()),
         }
     }
 

@@ -7,14 +7,14 @@ ghost use Rattle.ss_base.specs.Standings.{in_front, promoted, without_manifest};
 ghost use Rattle.sparse_index.specs.Lists.{list_at, is_ready, HasRoom, Changes};
 ghost use Rattle.sparse_index.specs.Kept.{lists_of};
 
+use crate::last_bytes::NameMap;
 use crate::list::{in_front, promoted, without_manifest};
 use arrayvec::ArrayVec;
 use ss_base::{ManifestId, Memory, Name, Standing};
-use std::collections::HashMap;
 
 // What stands at the hook.
 pub(crate) fn list_of<'a, const L: usize>(
-    lists: &'a HashMap<Name, ArrayVec<Standing, L>>,
+    lists: &'a NameMap<Name, ArrayVec<Standing, L>>,
     hook: &Name,
 ) -> &'a [Standing]
     ensures { result.now ≡ list_at (lists_of lists.now.entries) hook.now }
@@ -26,7 +26,7 @@ pub(crate) fn list_of<'a, const L: usize>(
 }
 
 pub(crate) fn is_kept<const L: usize>(
-    lists: &HashMap<Name, ArrayVec<Standing, L>>,
+    lists: &NameMap<Name, ArrayVec<Standing, L>>,
     hook: &Name,
 ) -> bool
     ensures { result ≡ is_ready (lists_of lists.now.entries) hook.now }
@@ -36,7 +36,7 @@ pub(crate) fn is_kept<const L: usize>(
 
 // Keeps a list for the hook.
 pub(crate) fn keep<const L: usize>(
-    lists: &mut HashMap<Name, ArrayVec<Standing, L>>,
+    lists: &mut NameMap<Name, ArrayVec<Standing, L>>,
     hook: &Name,
 ) -> Result<(), Memory>
     ensures ok { OnOk result (HasRoom (lists_of lists.old.entries) (lists_of lists.new.entries) hook.now) }
@@ -50,7 +50,7 @@ pub(crate) fn keep<const L: usize>(
 
 // Puts the manifest in front of the hook's list.
 pub(crate) fn put_at<const L: usize>(
-    lists: &mut HashMap<Name, ArrayVec<Standing, L>>,
+    lists: &mut NameMap<Name, ArrayVec<Standing, L>>,
     hook: &Name,
     standing: Standing,
 )
@@ -64,7 +64,7 @@ pub(crate) fn put_at<const L: usize>(
 
 // Moves the champions that stand at the hook to its front.
 pub(crate) fn promote_at<const L: usize>(
-    lists: &mut HashMap<Name, ArrayVec<Standing, L>>,
+    lists: &mut NameMap<Name, ArrayVec<Standing, L>>,
     hook: &Name,
     champions: &[ManifestId],
 )
@@ -79,7 +79,7 @@ pub(crate) fn promote_at<const L: usize>(
 
 // Takes the manifest out of the hook's list.
 pub(crate) fn retire_at<const L: usize>(
-    lists: &mut HashMap<Name, ArrayVec<Standing, L>>,
+    lists: &mut NameMap<Name, ArrayVec<Standing, L>>,
     hook: &Name,
     id: ManifestId,
 )

@@ -3,6 +3,7 @@
 
 mod index;
 mod kept;
+mod last_bytes;
 mod list;
 
 pub use index::Index;

@@ -2,7 +2,7 @@
 ghost use Rattle.std.specs.Prelude.{◌≡◌, ◌≤◌, true, [], IfOk};
 ghost use Rattle.std.specs.List.{list_all};
 ghost use Rattle.ss_base.specs.Hook.{is_hook};
-ghost use Rattle.ss_base.specs.Ids.{are_distinct};
+ghost use Rattle.ss_base.specs.Ids.{has_name, are_distinct};
 ghost use Rattle.history.specs.Legal.{are_hooks};
 ghost use Rattle.store_core.specs.Seen.{HasSeen};
 
@@ -30,9 +30,33 @@ fn put_distinct(seen: &mut BTreeSet<Name>, hooks: &[Name]) -> Result<bool, Memor
     }
 }
 
+#[tactic(auto, unfolding(ss_base::specs::Ids::has_name))]
+fn has_name(name: &Name, names: &[Name]) -> bool
+    ensures { result ≡ has_name name.now names.now }
+{
+    names.iter().any(|other| name.0 == other.0)
+}
+
+// The same of a few hooks: each is compared with those behind it.
+#[tactic(auto, unfolding(ss_base::specs::Ids::are_distinct))]
+fn few_are_distinct(hooks: &[Name]) -> bool
+    ensures { result ≡ are_distinct hooks.now }
+{
+    match hooks {
+        [] => true,
+        [hook, rest @ ..] => !has_name(hook, rest) && few_are_distinct(rest),
+    }
+}
+
+// A set costs more than to compare so many with each other.
+const FEW: usize = 32;
+
 fn are_distinct(alloc: Global, hooks: &[Name]) -> Result<bool, Memory>
     ensures { IfOk result (λ distinct. distinct ≡ are_distinct hooks.now) }
 {
+    if hooks.len() <= FEW {
+        return Ok(few_are_distinct(hooks));
+    }
     let mut seen = BTreeSet::new(alloc);
     let distinct = put_distinct(&mut seen, hooks)?;
     Ok(distinct)

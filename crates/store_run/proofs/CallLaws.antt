@@ -24,6 +24,7 @@ use Rattle.report.specs.declared.answer.JobAnswer.{JobAnswer}
 use Rattle.report.specs.declared.answer.JobAnswer.TheVariants as job
 use Rattle.job_entries.proofs.EntryLaws.{backup_alone-adds}
 use Rattle.job_entries.proofs.RestoreLaws.{restore_alone-adds}
+use Rattle.segment_store.specs.Loads.{Entries}
 use Rattle.job_run.specs.Erasing.{of_point, of_erases, HasReclaimed, none, more, LastReclaim, few, troubled, unmade}
 use Rattle.job_run.specs.Jobs.{answer_of, CommandDone}
 use Rattle.store_run.specs.JobCalls.{FullReclaims, EndsReclaims, ReclaimCalls, JobCalls}
@@ -134,17 +135,17 @@ module _ (author : ℕ) (old new : StateView) where
     added = unchanged between cause adds ∙ before.behind;
   }
 
-  pub job-calls : (kind : JobKind) (before after : Shelves) (answer : JobAnswer) → CommandDone 8 8 author kind old new before after answer → AddsCalls kind author old new answer
-  job-calls (Backup input asked) before after answer done =
+  pub job-calls : (kind : JobKind) (before after : Shelves) (cache cache' : Entries) (answer : JobAnswer) → CommandDone 8 8 author kind old new before after cache cache' answer → AddsCalls kind author old new answer
+  job-calls (Backup input asked) before after cache cache' answer done =
       let ran = done.done in
-      let adds = backup_alone-adds 8 8 before.files input asked (record { author = author; seen = old }) before.depot ran.after after.depot done.result ran.answer in
+      let adds = backup_alone-adds 8 8 before.files input asked (record { author = author; seen = old }) before.depot cache ran.after after.depot cache' done.result ran.answer in
       record { points = adds.0; calls = record { result = done.result; answer_is = done.answer_is; points_are = adds.2 }; added = sym ran.after_is ∙ adds.1 }
-  job-calls (Restore asked output) before after answer done =
+  job-calls (Restore asked output) before after cache cache' answer done =
       let adds = restore_alone-adds old author asked new output before after done.result done.done in
       record { points = adds.0; calls = record { result = done.result; answer_is = done.answer_is; points_are = adds.2 }; added = adds.1 }
-  job-calls (Delete asked) before after answer done =
+  job-calls (Delete asked) before after cache cache' answer done =
       subst (λ (a : JobAnswer). AddsCalls (Delete asked) author old new a) (sym done.0.answer_is) (delete-calls asked done.0.result done.0.done)
-  job-calls Reclaim before after answer done =
+  job-calls Reclaim before after cache cache' answer done =
       last-calls answer done.0.between done.0.shelf after.depot (full-added before.depot done.0.between done.0.shelf done.0.earlier) done.0.last
-  job-calls Stat before after answer done =
+  job-calls Stat before after cache cache' answer done =
       subst (λ (a : JobAnswer). AddsCalls Stat author old new a) (sym done.0.answer_is) (stat-calls done.0.result done.0.done)

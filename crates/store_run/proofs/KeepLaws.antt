@@ -1,12 +1,11 @@
 -- What is kept of a run in the journal.
 use Rattle.std.proofs.Common.{◌≡◌, ℕ, suc, ◌+◌, ◌≤◌, Bool, true, leb, leb-true, arith, List, [], ◌∷◌, length, take, drop, All, refl, sym, subst, inl, inr, take-append-drop, lit≤}
 use Rattle.std.specs.Prelude.{MatchResult, OnOk, OnErr, Ok, Err}
-use Rattle.std.specs.List.{AllByRecursion}
 use Rattle.std.proofs.lemmas.List.{reverse-reverse, length-reverse}
 use Rattle.std.proofs.lemmas.Bool.{and_parts}
 use Rattle.ss_base.proofs.MemberLaws.{In, in_append_right, reverse_in, All-from_in}
 use Rattle.journal_entry.specs.declared.entry.Entry.{Entry}
-use Rattle.journal_entry.specs.Bounds.{IsEntry, IsWithinBounds}
+use Rattle.journal_entry.specs.Bounds.{IsWithinBounds}
 use Rattle.journal_entry.specs.EntryText.{entries_text}
 use Rattle.history.specs.declared.rules.Rules.{Rules}
 use Rattle.history.specs.Legal.{is_allowed, unfinished_sessions, unfinished_readings, is_within, may_follow, is_legal}
@@ -55,10 +54,10 @@ bounded_from state first legal =
 pub keeps_so : (before after : ShelfView) (entries : List Entry) (kept : Kept)
     → MatchResult kept (λ _. after.held ≡ with_entries before.held entries) (λ _. AppendLeaves before.held after.held journal_name (entries_text entries))
     → MatchResult kept (λ _. after.wrote ≡ with_write before.wrote entries) (λ _. after.wrote ≡ before.wrote)
-    → after.gave ≡ before.gave → after.erased ≡ before.erased → after.reads ≡ before.reads → AppendCount kept before.faults after.faults → OnOk kept (AllByRecursion IsEntry entries)
+    → after.gave ≡ before.gave → after.erased ≡ before.erased → after.reads ≡ before.reads → AppendCount kept before.faults after.faults
     → KeepAnswer before after entries kept
-keeps_so before after entries (Ok done) held wrote gave erased reads count valid = (valid, same_view after (record before { held = with_entries before.held entries; wrote = with_write before.wrote entries }) held gave wrote erased reads count)
-keeps_so before after entries (Err fault) held wrote gave erased reads count valid = (held, same_view after (record before { held = after.held; faults = after.faults }) refl gave wrote erased reads refl)
+keeps_so before after entries (Ok done) held wrote gave erased reads count = same_view after (record before { held = with_entries before.held entries; wrote = with_write before.wrote entries }) held gave wrote erased reads count
+keeps_so before after entries (Err fault) held wrote gave erased reads count = (held, same_view after (record before { held = after.held; faults = after.faults }) refl gave wrote erased reads refl)
 
 -- what printing did
 pub prints_so : (text : List ℕ) (sink sink' : SinkView) (printed : Printed) → OnOk printed (Takes sink sink' text) → OnErr printed (TakesFront sink sink' text) → PrintAnswer text sink sink' printed

@@ -22,6 +22,7 @@ use Rattle.report.specs.declared.answer.JobAnswer.{JobAnswer}
 use Rattle.report.specs.JobLine.{job_line}
 use Rattle.report.specs.Status.{answer_status}
 use Rattle.restore.specs.Copies.{Shelves}
+use Rattle.segment_store.specs.Loads.{Entries}
 use Rattle.job_run.specs.Jobs.{CommandDone}
 use Rattle.store_run.specs.declared.stop.Stop.{Stop}
 use Rattle.store_run.specs.declared.stop.Stop.TheVariants.{DepotFault, Memory, Callers}
@@ -77,15 +78,16 @@ PrintAnswer text sink sink' (Err trouble) = TakesFront sink sink' text
 
 -- ---- keeping the entries
 
--- the entries' texts stand behind the journal, and can be read; where the append failed, a front of them, perhaps none
+-- the entries' texts stand behind the journal; where the append failed, a front of them, perhaps none
 abbrev pub KeepAnswer : ShelfView → ShelfView → List Entry → Kept → Type 0
 KeepAnswer before after entries (Ok done) =
-    AllByRecursion IsEntry entries × (after ≡ record before { held = with_entries before.held entries; wrote = with_write before.wrote entries })
+    after ≡ record before { held = with_entries before.held entries; wrote = with_write before.wrote entries }
 KeepAnswer before after entries (Err fault) =
     AppendLeaves before.held after.held journal_name (entries_text entries) × (after ≡ record before { held = after.held; faults = after.faults })
 
--- Entries were kept in the journal, and reported.
+-- Entries, each of which can be read from its text, were kept in the journal, and reported.
 pub record IsKeptAndReported (first : ℕ) (entries : List Entry) (job : Job) (answer : JobAnswer) (depot depot' : ShelfView) (sink sink' : SinkView) (status : ℕ) : Type 0 where
+  pub fit : AllByRecursion IsEntry entries
   pub kept : Kept
   pub keeps : KeepAnswer depot depot' entries kept
   pub keep_count : AppendCount kept depot.faults depot'.faults
@@ -97,7 +99,7 @@ pub record IsKeptAndReported (first : ℕ) (entries : List Entry) (job : Job) (a
 -- ---- the run
 
 -- A job was done in the store that was opened, as the author that comes next. The entries of its calls stand behind
--- those of the store, which make a legal history, and were kept and reported.
+-- those of the store, which make a legal history, and were kept and reported. Its cache of manifests began empty.
 pub record HasDoneJob (kind : JobKind) (before after : Shelves) (sink sink' : SinkView) (status : ℕ) : Type 0 where
   pub store : StateView
   pub opened : Shelves
@@ -108,7 +110,8 @@ pub record HasDoneJob (kind : JobKind) (before after : Shelves) (sink sink' : Si
   pub new : StateView
   pub done : Shelves
   pub answer : JobAnswer
-  pub job : CommandDone 8 8 author kind store new opened done answer
+  pub cache : Entries
+  pub job : CommandDone 8 8 author kind store new opened done [] cache answer
   pub points : List Point
   pub calls : JobCalls kind answer points
   pub added : new ≡ record store { entries = store.entries ++ map (made author) points }
@@ -116,10 +119,13 @@ pub record HasDoneJob (kind : JobKind) (before after : Shelves) (sink sink' : Si
   pub files_kept : after.files ≡ done.files
   pub ending : IsKeptAndReported (length store.entries) (map (made author) points) (record { lane = 1; kind = kind }) answer done.depot after.depot sink sink' status
 
--- A run of a job: it was done; or the store was not opened, or has no author left, and the cause's line was printed.
+-- A run of a job: it was done; or the store was not opened, or has no author left, or the run's cache wanted memory, and
+-- the cause's line was printed.
 pub data JobRun (kind : JobKind) (before after : Shelves) (sink sink' : SinkView) (status : ℕ) : Type 0 where
   ran : HasDoneJob kind before after sink sink' status → JobRun kind before after sink sink' status
   not_opened : (why : Stop) → Opens before.depot after.depot (Err why) → after.files ≡ before.files → Refuses why [] sink sink' status
       → JobRun kind before after sink sink' status
   no_author : (store : StateView) → Opens before.depot after.depot (Ok store) → author_after (past_of store) ≡ None → after.files ≡ before.files
       → Refuses Callers [] sink sink' status → JobRun kind before after sink sink' status
+  no_cache : (store : StateView) → Opens before.depot after.depot (Ok store) → after.files ≡ before.files → Refuses Memory [] sink sink' status
+      → JobRun kind before after sink sink' status

@@ -11,14 +11,18 @@ use crate::stop::Stop;
 use job_run::run_command;
 use job_script::{Job, JobKind};
 use journal_file::append;
+use manifest_cache::ManifestCache;
 use outside::{Shelf, Sink};
 use report::{JobAnswer, status_of};
 use std::alloc::Global;
 use store_core::State;
 
+/// How many loaded manifests a run keeps.
+const CACHE_SIZE: usize = 64;
+
 /// Opens the store, does the job on lane 1 as the author that comes next, keeps the new entries in the journal by one
 /// append, and prints the report: a line for each of these entries, and one for the job. Answers the status. Where the
-/// store is not opened, or no author's number is left, only that line is printed.
+/// store is not opened, no author's number is left, or the cache of manifests wants memory, only that line is printed.
 pub(crate) fn run_on_store<O: Sink, F: Shelf, K: Shelf>(
     alloc: Global,
     kind: JobKind,
@@ -38,8 +42,11 @@ pub(crate) fn run_on_store<O: Sink, F: Shelf, K: Shelf>(
     let Some(author) = state.next_author() else {
         return refuse(alloc, out, &[], Stop::Callers);
     };
+    let Ok(mut cache) = ManifestCache::new(alloc, CACHE_SIZE) else {
+        return refuse(alloc, out, &[], Stop::Memory);
+    };
     let first = state.entries().len();
-    let answer = run_command(alloc, &mut state, author, &kind, files, depot);
+    let answer = run_command(alloc, &mut state, author, &kind, files, depot, &mut cache);
     let job = Job { lane: 1, kind };
     keep_and_report(alloc, &state, first, &job, &answer, depot, out)
 }

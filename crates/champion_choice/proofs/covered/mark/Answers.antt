@@ -1,6 +1,5 @@
-use Rattle.std.proofs.Common.{◌≡◌, ◌<◌, ◌||◌, ◌∙◌, length, false, take, get_or, set, sym, ap, arith, List}
+use Rattle.std.proofs.Common.{◌≡◌, ◌<◌, ◌||◌, ◌∙◌, length, false, take, get_or, set, sym, ap, arith, List, Bool}
 use Rattle.std.proofs.lemmas.List.{length-map}
-use Rattle.ss_base.specs.declared.ids.Standing.{Standing}
 use Rattle.ss_base.specs.Champions.{stands_in}
 use Rattle.champion_choice.specs.Lists.{standings, marked}
 use Rattle.champion_choice.proofs.ListLaws.{marked_more, item_at}
@@ -15,7 +14,7 @@ loop-i-preserved c =
     let same = item_at c.args.lists.now i c.index-lists-i.result c.as_slice.result.now c.as_slice.ensures.value c.index-lists-i.is in
     let below : i < length lists = omega (arith, long) in
     let fits : length c.args.covered.now ≡ length lists = c.requires ∙ sym long in
-    ap (λ flags. set flags i (get_or flags i false || c.stands_in-stands.result)) c.loop-i.invariant
-    ∙ ap (λ b. set (marked c.args.id (take i lists) c.args.covered.now) i (get_or (marked c.args.id (take i lists) c.args.covered.now) i false || b))
-    (c.stands_in-stands.ensures ∙ ap (λ (stood : List Standing). stands_in c.args.id stood) same)
+    let flags = marked c.args.id (take i lists) c.args.covered.now in
+    ap (λ (l : List Bool). set l i c.is_covered-now.result) c.loop-i.invariant
+    ∙ ap (λ b. set flags i b) (c.is_covered-now.ensures ∙ (λ k. get_or (c.loop-i.invariant k) i false || stands_in c.args.id (same k)))
     ∙ sym (marked_more c.args.id c.args.covered.now lists i false d below fits)

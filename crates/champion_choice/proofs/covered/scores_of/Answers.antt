@@ -7,7 +7,7 @@ use Rattle.champion_choice.proofs.ListLaws.{scored_none, scored_more, count_boun
 use Rattle.champion_choice.proofs.covered.scores_of.Goals as goal
 
 pub loop-stood-init : goal.loop-stood-init
-loop-stood-init c = scored_none c.new-scores.result c.new-scores.ensures.empty
+loop-stood-init c = scored_none c.in_ok-scores.scores c.in_ok-scores.ensures.empty
 
 pub add_list-requires-clause-once : goal.add_list-requires-clause-once
 add_list-requires-clause-once c =

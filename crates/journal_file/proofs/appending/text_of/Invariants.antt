@@ -1,9 +1,6 @@
 use Rattle.std.proofs.Common.{◌≡◌, take}
-use Rattle.std.specs.List.{AllByRecursion}
-use Rattle.journal_entry.specs.Bounds.{IsEntry}
 use Rattle.journal_entry.specs.EntryText.{entries_text}
 use Rattle.journal_file.proofs.appending.text_of.Given as goal
 
 abbrev pub invariant-loop-entry : goal.invariant-loop-entry
-invariant-loop-entry l =
-    (l.text.items ≡ entries_text (take l.entry-index l.entries)) × AllByRecursion IsEntry (take l.entry-index l.entries)
+invariant-loop-entry l = l.text.items ≡ entries_text (take l.entry-index l.entries)

@@ -30,8 +30,8 @@ abort_chosen-idle-requires-in-Err g c =
 
 pub returns-in-Ok-commit-clause-answer : goal.returns-in-Ok-commit-clause-answer
 returns-in-Ok-commit-clause-answer g c = λ chunks has.
-    let before = progress_of (seen g.K.Shelf c.args.depot.now) c.args.extent.now in
-    let after = progress_of (seen g.K.Shelf c.store_for.new.depot) c.store_for.new.extent in
+    let before = progress_of (seen g.K.Shelf c.args.depot.now) c.args.extent.now c.args.cache.now.entries in
+    let after = progress_of (seen g.K.Shelf c.store_for.new.depot) c.store_for.new.extent c.store_for.new.cache.entries in
     record {
       stored = c.in-Ok.stored;
       written = c.in-Ok.written;
@@ -49,16 +49,16 @@ returns-in-Ok-commit-clause-ready g c =
 
 pub returns-in-Err-commit-clause-answer : goal.returns-in-Err-commit-clause-answer
 returns-in-Err-commit-clause-answer g c = λ chunks has.
-    let before = progress_of (seen g.K.Shelf c.args.depot.now) c.args.extent.now in
-    let after = progress_of (seen g.K.Shelf c.store_for.new.depot) c.store_for.new.extent in
-    uncommitted after c.in-Ok.stored c.in-Ok.written (g.C.SessionCalls.of_chosen c.commit.new.self c.in-Err-commit.chosen) c.in-Err-commit.fault refl c.of_point.ensures
+    let before = progress_of (seen g.K.Shelf c.args.depot.now) c.args.extent.now c.args.cache.now.entries in
+    let after = progress_of (seen g.K.Shelf c.store_for.new.depot) c.store_for.new.extent c.store_for.new.cache.entries in
+    uncommitted after c.in-Ok.stored c.in-Ok.written (g.C.SessionCalls.of_chosen c.commit.new.self c.in-Err-commit.chosen) c.in-Err-commit.fault (refl, refl) c.of_point.ensures
     (subst (λ (choice : Choice). IsStoredFor chunks choice c.args.room before after c.in-Ok.stored c.in-Ok.written) c.choice-choice.ensures (c.in-Ok.ensures.answer chunks has))
     c.in-Err-commit.ensures c.abort_chosen-idle.ensures
 
 pub returns-in-Err-clause-answer : goal.returns-in-Err-clause-answer
 returns-in-Err-clause-answer g c = λ chunks has.
-    let before = progress_of (seen g.K.Shelf c.args.depot.now) c.args.extent.now in
-    let after = progress_of (seen g.K.Shelf c.store_for.new.depot) c.store_for.new.extent in
-    unstored after refl
+    let before = progress_of (seen g.K.Shelf c.args.depot.now) c.args.extent.now c.args.cache.now.entries in
+    let after = progress_of (seen g.K.Shelf c.store_for.new.depot) c.store_for.new.extent c.store_for.new.cache.entries in
+    unstored after (refl, refl)
     (subst (λ (choice : Choice). NotStoredFor chunks choice c.args.room before after c.in-Err.fault) c.choice-choice.ensures (c.in-Err.ensures.answer chunks has))
     c.abort_chosen-idle-in-Err.ensures

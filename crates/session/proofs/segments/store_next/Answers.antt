@@ -44,8 +44,8 @@ abort-idle-requires-in-Err g c =
 
 pub returns-in-Ok-choose-clause-answer : goal.returns-in-Ok-choose-clause-answer
 returns-in-Ok-choose-clause-answer g c = λ chunks has.
-    let before = reached (g.C.SessionCalls.of_open c.args.calls.now c.args.caller) (seen g.K.Shelf c.args.depot.now) c.args.extent.now in
-    let after = reached (g.C.SessionCalls.of_open c.store_chosen.new.calls c.args.caller) (seen g.K.Shelf c.store_chosen.new.depot) c.store_chosen.new.extent in
+    let before = reached (g.C.SessionCalls.of_open c.args.calls.now c.args.caller) (seen g.K.Shelf c.args.depot.now) c.args.extent.now c.args.cache.now.entries in
+    let after = reached (g.C.SessionCalls.of_open c.store_chosen.new.calls c.args.caller) (seen g.K.Shelf c.store_chosen.new.depot) c.store_chosen.new.extent c.store_chosen.new.cache.entries in
     let numbers : c.numbers-numbers.result ≡ numbers_of before.caller.seen.profile = c.numbers-numbers.ensures.table ∙ ap numbers_of c.profile.ensures in
     let names : c.in-Ok.hooks.items ≡ hooks_for before.caller chunks =
     c.in-Ok.ensures.hooks ∙ ap (λ (n : Numbers). hooks n.bits c.deref.result.now) numbers ∙ ap (λ (ps : List Piece). hooks (numbers_of before.caller.seen.profile).bits ps) (c.deref.ensures.value ∙ has.pieces) in
@@ -53,16 +53,16 @@ returns-in-Ok-choose-clause-answer g c = λ chunks has.
     let chooses = subst (λ (ns : List Name). HasChosen g.C.SessionCalls.others g.C.SessionCalls.standings g.C.SessionCalls.champions before.caller ns chosen) names c.in-Ok-choose.ensures in
     next_answer g.C.SessionCalls.others g.C.SessionCalls.standings g.C.SessionCalls.champions chunks before chosen c.numbers-numbers.result.room (ap (λ (n : Numbers). n.room) numbers) chooses
     c.store_chosen.result
-    (λ token. reached (g.C.SessionCalls.of_open c.store_chosen.new.calls token) (seen g.K.Shelf c.store_chosen.new.depot) c.store_chosen.new.extent)
-    (λ back. g.C.SessionCalls.of_idle c.store_chosen.new.calls back) (seen g.K.Shelf c.store_chosen.new.depot)
+    (λ token. reached (g.C.SessionCalls.of_open c.store_chosen.new.calls token) (seen g.K.Shelf c.store_chosen.new.depot) c.store_chosen.new.extent c.store_chosen.new.cache.entries)
+    (λ back. g.C.SessionCalls.of_idle c.store_chosen.new.calls back) (seen g.K.Shelf c.store_chosen.new.depot) c.store_chosen.new.cache.entries
     (c.store_chosen.ensures.answer chunks has)
 
 pub returns-in-Err-clause-answer : goal.returns-in-Err-clause-answer
 returns-in-Err-clause-answer g c = λ chunks has.
-    let before = reached (g.C.SessionCalls.of_open c.args.calls.now c.args.caller) (seen g.K.Shelf c.args.depot.now) c.args.extent.now in
+    let before = reached (g.C.SessionCalls.of_open c.args.calls.now c.args.caller) (seen g.K.Shelf c.args.depot.now) c.args.extent.now c.args.cache.now.entries in
     let back = g.C.SessionCalls.of_open c.choose.new.self c.in-Err.caller in
     let numbers : c.numbers-numbers.result ≡ numbers_of before.caller.seen.profile = c.numbers-numbers.ensures.table ∙ ap numbers_of c.profile.ensures in
     let names : c.in-Ok.hooks.items ≡ hooks_for before.caller chunks =
     c.in-Ok.ensures.hooks ∙ ap (λ (n : Numbers). hooks n.bits c.deref.result.now) numbers ∙ ap (λ (ps : List Piece). hooks (numbers_of before.caller.seen.profile).bits ps) (c.deref.ensures.value ∙ has.pieces) in
     let refused = subst (λ (ns : List Name). HasNotChosen g.C.SessionCalls.others g.C.SessionCalls.standings g.C.SessionCalls.champions before.caller ns back c.in-Err.fault) names c.in-Err.ensures in
-    unchosen back c.in-Err.fault c.of_point.ensures refl refused c.abort-idle-in-Err.ensures
+    unchosen back c.in-Err.fault c.of_point.ensures (refl, refl) refused c.abort-idle-in-Err.ensures

@@ -33,13 +33,14 @@ returns-in-Ok-store_segments-clause-answer g c =
     let calls = g.C.SessionCalls in
     let caller = calls.of_open c.args.calls.now c.args.caller in
     let shelf = seen g.K.Shelf c.args.depot.now in
-    let last = reached (calls.of_open c.store_segments.new.calls c.in-Ok-store_segments.caller) (seen g.K.Shelf c.store_segments.new.depot) c.store_segments.new.extent in
+    let last = reached (calls.of_open c.store_segments.new.calls c.in-Ok-store_segments.caller) (seen g.K.Shelf c.store_segments.new.depot) c.store_segments.new.extent c.store_segments.new.cache.entries in
     record {
       last = last;
       stored =
           subst (λ (start : Reached). HasStoredStream calls.others calls.standings calls.champions (numbers_for caller) start (source_view g.S.Source c.args.source.now) (source_view g.S.Source c.store_segments.new.source) last)
-          (ap (λ (extent : Extent). reached caller shelf extent) (c.new-extent.ensures ∙ ap no_extent c.session.ensures)) c.in-Ok-store_segments.ensures.answer;
+          (ap (λ (extent : Extent). reached caller shelf extent c.args.cache.now.entries) (c.new-extent.ensures ∙ ap no_extent c.session.ensures)) c.in-Ok-store_segments.ensures.answer;
       shelf_is = refl;
+      cache_is = refl;
       finished = c.finish.ensures;
     }
 
@@ -50,5 +51,5 @@ returns-clause-answer g c =
     let shelf = seen g.K.Shelf c.args.depot.now in
     let back = c.in-Err.back in
     stopped
-    (subst (λ (start : Reached). HasStoppedStream calls.others calls.standings calls.champions (numbers_for caller) start (source_view g.S.Source c.args.source.now) (source_view g.S.Source c.store_segments.new.source) (calls.of_idle c.store_segments.new.calls back.0) (seen g.K.Shelf c.store_segments.new.depot) back.1)
-    (ap (λ (extent : Extent). reached caller shelf extent) (c.new-extent.ensures ∙ ap no_extent c.session.ensures)) c.in-Err.ensures.answer)
+    (subst (λ (start : Reached). HasStoppedStream calls.others calls.standings calls.champions (numbers_for caller) start (source_view g.S.Source c.args.source.now) (source_view g.S.Source c.store_segments.new.source) (calls.of_idle c.store_segments.new.calls back.0) (seen g.K.Shelf c.store_segments.new.depot) c.store_segments.new.cache.entries back.1)
+    (ap (λ (extent : Extent). reached caller shelf extent c.args.cache.now.entries) (c.new-extent.ensures ∙ ap no_extent c.session.ensures)) c.in-Err.ensures.answer)

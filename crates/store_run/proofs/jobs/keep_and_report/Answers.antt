@@ -37,8 +37,9 @@ returns-clause-kept g c =
     subst (λ (entries : List Entry). IsKeptAndReported c.args.first entries c.args.job.now c.args.answer.now depot depot' sink sink' c.status_of_run.result)
     (c.split_at.ensures.back ∙ ap (drop c.args.first) c.entries.ensures.entries)
     (record {
+      fit = kept.entries;
       kept = c.append-kept.result;
-      keeps = keeps_so depot depot' c.split_at.result.1.now c.append-kept.result kept.held kept.wrote kept.gave kept.erased kept.reads kept.count kept.entries;
+      keeps = keeps_so depot depot' c.split_at.result.1.now c.append-kept.result kept.held kept.wrote kept.gave kept.erased kept.reads kept.count;
       keep_count = kept.count;
       printed = c.print_report-printed.result;
       prints = prints_so (report_text c.args.first c.split_at.result.1.now c.args.job.now c.args.answer.now c.append-kept.result) sink sink' c.print_report-printed.result printed.ok printed.err;

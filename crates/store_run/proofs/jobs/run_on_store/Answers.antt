@@ -1,8 +1,14 @@
-use Rattle.std.proofs.Common.{◌≡◌, length, map, refl, drop, sym, ap, ◌∙◌, arith, length-append}
+use Rattle.std.proofs.Common.{◌≡◌, length, map, subst, refl, drop, sym, ap, ◌∙◌, arith, length-append}
 use Rattle.std.proofs.Math.Seq.{drop-append_seam}
 use Rattle.outside.specs.Views.{shelf_view}
+use Rattle.lru.specs.LruCache.{LruCache}
+use Rattle.ss_base.specs.declared.ids.ManifestId.{ManifestId}
 use Rattle.store_core.specs.View.{StateView, made}
-use Rattle.store_run.specs.JobRun.JobRun.{ran, not_opened, no_author}
+use Rattle.restore.specs.Copies.{Shelves}
+use Rattle.manifest_cache.specs.Cached.{CachedView}
+use Rattle.segment_store.specs.Loads.{Entries}
+use Rattle.job_run.specs.Jobs.{CommandDone}
+use Rattle.store_run.specs.JobRun.JobRun.{ran, not_opened, no_author, no_cache}
 use Rattle.store_run.proofs.CallLaws.{job-calls}
 use Rattle.store_run.proofs.OpenLaws.{opened_limits, ending-as}
 use Rattle.store_run.proofs.jobs.run_on_store.Goals as goal
@@ -13,16 +19,19 @@ returns-in-Err g c = not_opened c.in-Err.why c.in-Err.ensures refl c.refuse.ensu
 pub returns-in_default : goal.returns-in_default
 returns-in_default g c = no_author c.in-Ok.state c.in-Ok.ensures (sym c.next_author.ensures ∙ c.in_default.is) refl c.refuse-in_default.ensures
 
+pub returns-in_default-new : goal.returns-in_default-new
+returns-in_default-new g c = no_cache c.in-Ok.state c.in-Ok.ensures refl c.refuse-in_default-new.ensures
+
 pub keep_and_report-requires-clause-first : goal.keep_and_report-requires-clause-first
 keep_and_report-requires-clause-first g c =
-    let calls = job-calls c.in-Some.author c.in-Ok.state c.run_command-answer.new.state c.args.kind _ _ c.run_command-answer.result c.run_command-answer.ensures in
+    let calls = job-calls c.in-Some.author c.in-Ok.state c.run_command-answer.new.state c.args.kind _ _ _ _ c.run_command-answer.result (c.run_command-answer.ensures.done) in
     let all = ap (λ (state : StateView). length state.entries) calls.added in
     let sum = length-append c.in-Ok.state.entries (map (made c.in-Some.author) calls.points) in
     omega (arith, all, sum, ap length c.entries-first.ensures.entries)
 
 pub keep_and_report-requires-clause-limits : goal.keep_and_report-requires-clause-limits
 keep_and_report-requires-clause-limits g c =
-    let calls = job-calls c.in-Some.author c.in-Ok.state c.run_command-answer.new.state c.args.kind _ _ c.run_command-answer.result c.run_command-answer.ensures in
+    let calls = job-calls c.in-Some.author c.in-Ok.state c.run_command-answer.new.state c.args.kind _ _ _ _ c.run_command-answer.result (c.run_command-answer.ensures.done) in
     ap (λ (state : StateView). state.limits) calls.added ∙ opened_limits _ _ c.in-Ok.state c.in-Ok.ensures
 
 pub returns : goal.returns
@@ -30,22 +39,27 @@ returns g c =
     let store = c.in-Ok.state in
     let author = c.in-Some.author in
     let new = c.run_command-answer.new.state in
-    let calls = job-calls author store new c.args.kind _ _ c.run_command-answer.result c.run_command-answer.ensures in
+    let calls = job-calls author store new c.args.kind _ _ _ _ c.run_command-answer.result (c.run_command-answer.ensures.done) in
     let first : length c.entries-first.result.now ≡ length store.entries = ap length c.entries-first.ensures.entries in
     let behind : drop (length store.entries) new.entries ≡ map (made author) calls.points =
     ap (λ (state : StateView). drop (length store.entries) state.entries) calls.added ∙ drop-append_seam store.entries (map (made author) calls.points) in
+    let opened : Shelves = record { files = shelf_view g.F.Shelf c.args.files.now; depot = shelf_view g.K.Shelf c.open.new.depot } in
+    let done : Shelves = record { files = shelf_view g.F.Shelf c.run_command-answer.new.files; depot = shelf_view g.K.Shelf c.run_command-answer.new.depot } in
     ran
     (record {
       store = store;
-      opened = record { files = shelf_view g.F.Shelf c.args.files.now; depot = shelf_view g.K.Shelf c.open.new.depot };
+      opened = opened;
       opens = c.in-Ok.ensures;
       files_same = refl;
       author = author;
       author_is = sym c.next_author.ensures ∙ c.in-Some.is;
       new = new;
-      done = record { files = shelf_view g.F.Shelf c.run_command-answer.new.files; depot = shelf_view g.K.Shelf c.run_command-answer.new.depot };
+      done = done;
       answer = c.run_command-answer.result;
-      job = c.run_command-answer.ensures;
+      cache = c.run_command-answer.new.cache.entries;
+      job =
+          subst (λ (es : Entries). CommandDone 8 8 author c.args.kind store new opened done es c.run_command-answer.new.cache.entries c.run_command-answer.result)
+          (ap (λ (held : LruCache ManifestId CachedView). held.entries) c.in-Ok-new.ensures) c.run_command-answer.ensures.done;
       points = calls.points;
       calls = calls.calls;
       added = calls.added;
