@@ -4,7 +4,7 @@ use Rattle.std.specs.List.{IsDistinct}
 use Rattle.std.specs.Option.{option_map}
 use Rattle.std.specs.HashMap as hash
 use Rattle.std.specs.declared.hash.BuildHasherDefault.{BuildHasherDefault}
-use Rattle.fnv_hash.specs.declared.hasher.FnvHasher.{FnvHasher}
+use Rattle.fx_hash.specs.declared.hasher.FxHasher.{FxHasher}
 use Rattle.ss_base.specs.declared.ids.ManifestId.{ManifestId}
 use Rattle.ss_base.specs.declared.ids.Standing.{Standing}
 use Rattle.ss_base.specs.Ids.{same_manifest}
@@ -13,7 +13,7 @@ use Rattle.champion_choice.specs.declared.score.Score.{Score}
 
 -- a score for each manifest that was counted
 abbrev pub Kept : Type 0
-Kept = hash.HashMap ManifestId Score (BuildHasherDefault FnvHasher)
+Kept = hash.HashMap ManifestId Score (BuildHasherDefault FxHasher)
 
 abbrev pub score_at : Kept → ManifestId → Option Score
 score_at m id = hash.get same_manifest m id

@@ -7,7 +7,7 @@ ghost use Rattle.champion_choice.specs.Scores.{hooks_at, stamp_at, StandsOnce};
 ghost use Rattle.champion_choice.specs.Lists.{standings, left, remaining, marked, covered_by, HasAddedList, IsScored};
 
 use crate::score::{Score, add_one, lower};
-use fnv_hash::FnvMap;
+use fx_hash::FxMap;
 use ss_base::{ManifestId, Memory, Standing};
 use std::alloc::Global;
 use std::collections::HashMap;
@@ -27,7 +27,7 @@ pub(crate) fn stands_in(id: ManifestId, stood: &[Standing]) -> bool
 }
 
 // Counts one hook more for each manifest in its list.
-fn add_list(scores: &mut FnvMap<ManifestId, Score>, stood: &[Standing]) -> Result<(), Memory>
+fn add_list(scores: &mut FxMap<ManifestId, Score>, stood: &[Standing]) -> Result<(), Memory>
     requires once { StandsOnce stood.now }
     requires room { (q : Id) → hooks_at scores.old q < 2 ^ 64 - 1 }
     ensures { OnOk result (HasAddedList scores.old scores.new stood.now) }
@@ -51,7 +51,7 @@ fn most_scores(lists: &[Vec<Standing>]) -> usize {
 pub(crate) fn scores_of(
     alloc: Global,
     lists: &[Vec<Standing>],
-) -> Result<FnvMap<ManifestId, Score>, Memory>
+) -> Result<FxMap<ManifestId, Score>, Memory>
     requires { All StandsOnce (standings lists.now) }
     ensures { IfOk result (λ scores. IsScored scores (standings lists.now)) }
 {
@@ -68,7 +68,7 @@ pub(crate) fn scores_of(
 
 // Lowers the scores of what stands at one hook, where it is uncovered and the manifest stands there.
 fn lower_hook(
-    scores: &mut FnvMap<ManifestId, Score>,
+    scores: &mut FxMap<ManifestId, Score>,
     stood: &[Standing],
     covered: bool,
     id: ManifestId,
@@ -88,7 +88,7 @@ fn lower_hook(
 
 // Lowers the scores of what stands at the uncovered hooks at which the manifest stands.
 pub(crate) fn lower_at(
-    scores: &mut FnvMap<ManifestId, Score>,
+    scores: &mut FxMap<ManifestId, Score>,
     lists: &[Vec<Standing>],
     covered: &[bool],
     id: ManifestId,

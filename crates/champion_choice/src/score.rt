@@ -2,7 +2,7 @@
 ghost use Rattle.std.specs.Prelude.{◌≡◌, ◌-◌, ◌^◌, ◌<◌, OnOk, IfSome};
 ghost use Rattle.champion_choice.specs.Scores.{score_at, hooks_at, HasAdded, HasTaken, HasLowered, StandsOnce, is_ahead, better, best_from};
 
-use fnv_hash::FnvMap;
+use fx_hash::FxMap;
 use ss_base::{ManifestId, Memory, Standing};
 
 // The stamp of a manifest, and at how many hooks it stands.
@@ -14,7 +14,7 @@ pub(crate) struct Score {
 
 // Counts one hook more for what stands there.
 pub(crate) fn add_one(
-    scores: &mut FnvMap<ManifestId, Score>,
+    scores: &mut FxMap<ManifestId, Score>,
     standing: Standing,
 ) -> Result<(), Memory>
     requires { hooks_at scores.old standing.id < 2 ^ 64 - 1 }
@@ -35,7 +35,7 @@ pub(crate) fn add_one(
 }
 
 // Takes one hook away from the manifest, if it has one.
-pub(crate) fn take_one(scores: &mut FnvMap<ManifestId, Score>, id: ManifestId)
+pub(crate) fn take_one(scores: &mut FxMap<ManifestId, Score>, id: ManifestId)
     ensures { HasTaken scores.old scores.new id }
 {
     if let Some(score) = scores.get_mut(&id) {
@@ -47,7 +47,7 @@ pub(crate) fn take_one(scores: &mut FnvMap<ManifestId, Score>, id: ManifestId)
 }
 
 // Takes one hook away from each manifest that stands in the list.
-pub(crate) fn lower(scores: &mut FnvMap<ManifestId, Score>, stood: &[Standing])
+pub(crate) fn lower(scores: &mut FxMap<ManifestId, Score>, stood: &[Standing])
     requires { StandsOnce stood.now }
     ensures { HasLowered scores.old scores.new stood.now }
 {
@@ -90,7 +90,7 @@ fn better(
 }
 
 // The manifest with the best score, if one stands at an uncovered hook.
-pub(crate) fn best(scores: &FnvMap<ManifestId, Score>) -> Option<(ManifestId, Score)>
+pub(crate) fn best(scores: &FxMap<ManifestId, Score>) -> Option<(ManifestId, Score)>
     ensures best { result ≡ best_from None scores.now.entries }
     ensures found { IfSome result (λ scored. score_at scores.now scored.0 ≡ Some scored.1) }
 {

@@ -4,7 +4,7 @@ use Rattle.std.specs.HashMap as hash
 use Rattle.std.specs.declared.hash.BuildHasherDefault.{BuildHasherDefault}
 use Rattle.std.specs.FinMap as map
 use Rattle.std.specs.FinSet as set
-use Rattle.fnv_hash.specs.declared.hasher.FnvHasher.{FnvHasher}
+use Rattle.fx_hash.specs.declared.hasher.FxHasher.{FxHasher}
 use Rattle.ss_base.specs.declared.object.Object.{Object}
 use Rattle.ss_base.specs.declared.object.Object.TheVariants.{Container, Manifest}
 use Rattle.pins_counts.specs.declared.fact.Fact.{Fact}
@@ -14,7 +14,7 @@ use Rattle.ss_base.specs.Order.{object_cmp}
 
 -- the facts as they are kept, by their objects
 abbrev pub Kept : Type 0
-Kept = hash.HashMap Object Fact (BuildHasherDefault FnvHasher)
+Kept = hash.HashMap Object Fact (BuildHasherDefault FxHasher)
 
 -- what is kept of an object
 abbrev pub fact_at : Kept → Object → Option Fact

@@ -3,7 +3,7 @@ ghost use Rattle.std.specs.Prelude.{◌≡◌, ◌+◌, ◌-◌, ◌<◌, ◌^�
 ghost use Rattle.std.specs.HashMap.{IsUnchanged};
 ghost use Rattle.pins_counts.specs.Facts.{fact_at, fact_or_nothing, OneSet};
 
-use fnv_hash::FnvMap;
+use fx_hash::FxMap;
 use ss_base::{Memory, Object};
 
 // Of one kind and session, the objects from one number to another.
@@ -26,7 +26,7 @@ pub(crate) const NOTHING: Fact = Fact {
 };
 
 // What is kept of the object, where there is room for it.
-pub(crate) fn fact_of(facts: &FnvMap<Object, Fact>, object: Object) -> Fact
+pub(crate) fn fact_of(facts: &FxMap<Object, Fact>, object: Object) -> Fact
     ensures { result ≡ fact_or_nothing (fact_at facts.now object) }
 {
     match facts.get(&object) {
@@ -36,7 +36,7 @@ pub(crate) fn fact_of(facts: &FnvMap<Object, Fact>, object: Object) -> Fact
 }
 
 // Keeps this of the object, for which there is room.
-pub(crate) fn set_fact(facts: &mut FnvMap<Object, Fact>, object: Object, fact: Fact)
+pub(crate) fn set_fact(facts: &mut FxMap<Object, Fact>, object: Object, fact: Fact)
     requires { IsSome (fact_at facts.old object) }
     ensures { OneSet facts.old facts.new object fact }
 {
@@ -46,7 +46,7 @@ pub(crate) fn set_fact(facts: &mut FnvMap<Object, Fact>, object: Object, fact: F
 }
 
 // Adds one to the number of the object, for which there is room.
-pub(crate) fn raise(facts: &mut FnvMap<Object, Fact>, object: Object)
+pub(crate) fn raise(facts: &mut FxMap<Object, Fact>, object: Object)
     requires room { IsSome (fact_at facts.old object) }
     requires below { (fact_or_nothing (fact_at facts.old object)).number < 2 ^ 32 - 1 }
     ensures { let fact = fact_or_nothing (fact_at facts.old object) in OneSet facts.old facts.new object (record fact { number = fact.number + 1 }) }
@@ -60,7 +60,7 @@ pub(crate) fn raise(facts: &mut FnvMap<Object, Fact>, object: Object)
 }
 
 // Takes one from the number of the object, for which there is room, and says what is left.
-pub(crate) fn lower(facts: &mut FnvMap<Object, Fact>, object: Object) -> u32
+pub(crate) fn lower(facts: &mut FxMap<Object, Fact>, object: Object) -> u32
     requires room { IsSome (fact_at facts.old object) }
     requires above { 0 < (fact_or_nothing (fact_at facts.old object)).number }
     ensures set { let fact = fact_or_nothing (fact_at facts.old object) in OneSet facts.old facts.new object (record fact { number = fact.number - 1 }) }
@@ -80,7 +80,7 @@ pub(crate) fn lower(facts: &mut FnvMap<Object, Fact>, object: Object) -> u32
 }
 
 // Makes room for the object.
-pub(crate) fn make_fact(facts: &mut FnvMap<Object, Fact>, object: Object) -> Result<(), Memory>
+pub(crate) fn make_fact(facts: &mut FxMap<Object, Fact>, object: Object) -> Result<(), Memory>
     ensures ok { OnOk result (OneSet facts.old facts.new object (fact_or_nothing (fact_at facts.old object))) }
     ensures err { OnErr result (IsUnchanged facts.old facts.new) }
 {

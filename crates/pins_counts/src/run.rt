@@ -5,7 +5,7 @@ ghost use Rattle.ss_base.specs.Ids.{same_object};
 ghost use Rattle.pins_counts.specs.Facts.{fact_at, place_of, at_place, gone_in, seen_in, gone_now, IsSound};
 
 use crate::fact::{Fact, Run, fact_of, set_fact};
-use fnv_hash::FnvMap;
+use fx_hash::FxMap;
 use ss_base::{ContainerId, ManifestId, Object};
 
 // The object's number in its session.
@@ -35,7 +35,7 @@ pub(crate) fn at_place(object: Object, place: u32) -> Object
 }
 
 // The first of those just before the object that are known to be gone, or its own number.
-pub(crate) fn first_before(facts: &FnvMap<Object, Fact>, object: Object) -> u32
+pub(crate) fn first_before(facts: &FxMap<Object, Fact>, object: Object) -> u32
     requires { IsSound facts.now }
     ensures gone { (n : ℕ) → result ≤ n → n < place_of object → gone_in (fact_at facts.now (at_place object n)) ≡ true }
     ensures within { result ≤ place_of object }
@@ -52,7 +52,7 @@ pub(crate) fn first_before(facts: &FnvMap<Object, Fact>, object: Object) -> u32
 }
 
 // The last of those just after the object that are known to be gone, or its own number.
-pub(crate) fn last_after(facts: &FnvMap<Object, Fact>, object: Object) -> u32
+pub(crate) fn last_after(facts: &FxMap<Object, Fact>, object: Object) -> u32
     requires { IsSound facts.now }
     ensures gone { (n : ℕ) → place_of object < n → n ≤ result → gone_in (fact_at facts.now (at_place object n)) ≡ true }
     ensures within { place_of object ≤ result }
@@ -69,7 +69,7 @@ pub(crate) fn last_after(facts: &FnvMap<Object, Fact>, object: Object) -> u32
 }
 
 // Where a walk goes on after the object: those between are known to be gone. It ends at `count`.
-pub(crate) fn after_gone(facts: &FnvMap<Object, Fact>, object: Object, count: u32) -> u32
+pub(crate) fn after_gone(facts: &FxMap<Object, Fact>, object: Object, count: u32) -> u32
     requires sound { IsSound facts.now }
     requires below { place_of object < count }
     ensures gone { (n : ℕ) → place_of object < n → n < result → gone_in (fact_at facts.now (at_place object n)) ≡ true }
@@ -85,7 +85,7 @@ pub(crate) fn after_gone(facts: &FnvMap<Object, Fact>, object: Object, count: u3
 }
 
 // Lets the object, where it is gone, know this run, all of which is gone.
-pub(crate) fn set_run(facts: &mut FnvMap<Object, Fact>, object: Object, run: Run)
+pub(crate) fn set_run(facts: &mut FxMap<Object, Fact>, object: Object, run: Run)
     requires sound { IsSound facts.old }
     requires gone { (n : ℕ) → run.first ≤ n → n ≤ run.last → gone_in (fact_at facts.old (at_place object n)) ≡ true }
     requires within { (run.first ≤ place_of object) × (place_of object ≤ run.last) }
@@ -106,7 +106,7 @@ pub(crate) fn set_run(facts: &mut FnvMap<Object, Fact>, object: Object, run: Run
 }
 
 // Adds the object to those that are gone.
-pub(crate) fn set_gone(facts: &mut FnvMap<Object, Fact>, object: Object)
+pub(crate) fn set_gone(facts: &mut FxMap<Object, Fact>, object: Object)
     requires sound { IsSound facts.old }
     requires room { IsSome (fact_at facts.old object) }
     ensures sound { IsSound facts.new }

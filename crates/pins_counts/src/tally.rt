@@ -11,7 +11,7 @@ ghost use Rattle.pins_counts.specs.Waiting.{ended_at, objects_at, IsQuiet};
 use crate::fact::{Fact, fact_of, lower, make_fact, raise};
 use crate::kind::Kind;
 use crate::run::{after_gone, set_gone};
-use fnv_hash::FnvMap;
+use fx_hash::FxMap;
 use ss_base::{Ended, Memory, Object};
 use std::alloc::Global;
 use std::collections::HashMap;
@@ -25,7 +25,7 @@ const MAX_SESSIONS: usize = 4_294_967_294;
 pub(crate) struct Tally {
     sessions: Vec<Option<Ended>>,
     room: usize,
-    facts: FnvMap<Object, Fact>,
+    facts: FxMap<Object, Fact>,
 }
 
 impl Model for Tally {
