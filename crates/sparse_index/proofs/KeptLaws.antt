@@ -13,18 +13,19 @@ use Rattle.std.proofs.lemmas.Map.Views.{tells_apart}
 use Rattle.arrayvec.specs.ArrayVec.{ArrayVec}
 use Rattle.ss_base.specs.declared.ids.Standing.{Standing}
 use Rattle.ss_base.specs.declared.name.Name.{Name}
-use Rattle.ss_base.specs.contracts.name.NamePartialEq.TheImpl as name_eq
 use Rattle.ss_base.specs.contracts.name.NameOrd.TheImpl.Laws.{total-law}
 use Rattle.ss_base.specs.Ids.{same_name}
 use Rattle.ss_base.proofs.IdLaws.{same_name-self, same_name-true}
+use Rattle.sparse_index.specs.contracts.name_key.NameKeyPartialEq.TheImpl as key_eq
+use Rattle.sparse_index.specs.declared.name_key.NameKey.{NameKey}
 use Rattle.sparse_index.specs.Lists.{name_cmp, list_at, is_ready, HasRoom, Changes}
 use Rattle.sparse_index.specs.Kept.{Kept, kept_at, items_in, lists_of}
 
 -- ---- names
 
 -- the test that the derive gives
-abbrev pub derived : Name → Name → Bool
-derived = (name_eq.ghosts).eq
+abbrev pub derived : NameKey → NameKey → Bool
+derived = (key_eq.ghosts).eq
 
 pub names_total : IsTotalOrder name_cmp
 names_total = total-law
@@ -57,11 +58,11 @@ cond_items : (b : Bool) (a : ArrayVec Standing) (o : Option (ArrayVec Standing))
 cond_items true a o = refl
 cond_items false a o = refl
 
-find_items : (es : List (Name × ArrayVec Standing)) (q : Name) → map.find name_cmp q (map (λ e. (e.0, e.1.items)) es) ≡ option_map (λ (l : ArrayVec Standing). l.items) (lookup (same_name q) es)
+find_items : (es : List (NameKey × ArrayVec Standing)) (q : Name) → map.find name_cmp q (map (λ e. (e.0.0, e.1.items)) es) ≡ option_map (λ (l : ArrayVec Standing). l.items) (lookup (λ (key : NameKey). same_name q key.0) es)
 find_items [] q = refl
 find_items (e ∷ es) q =
     let rest = find_items es q in
-    (λ i. cond (names_tied q e.0 i) (Some e.1.items) (rest i)) ∙ cond_items (same_name q e.0) e.1 (lookup (same_name q) es)
+    (λ i. cond (names_tied q e.0.0 i) (Some e.1.items) (rest i)) ∙ cond_items (same_name q e.0.0) e.1 (lookup (λ (key : NameKey). same_name q key.0) es)
 
 get-lists_of : (m : Kept) (q : Name) → map.get (lists_of m.entries) q ≡ option_map (λ (l : ArrayVec Standing). l.items) (kept_at m q)
 get-lists_of m q = map.get-from_entries names_total _ q ∙ find_items m.entries q
@@ -87,10 +88,10 @@ pub record OneSet (m n : Kept) (k : Name) (w : ArrayVec Standing) : Type 0 where
   pub here : kept_at n k ≡ Some w
   pub other : (q : Name) → same_name q k ≡ false → kept_at n q ≡ kept_at m q
 
-pub one_set : (m n : Kept) (k : Name) (w : ArrayVec Standing) → hash.UpdatesBy derived (derived k) m n (Some w) → OneSet m n k w
+pub one_set : (m n : Kept) (k : Name) (w : ArrayVec Standing) → hash.UpdatesBy derived (derived (record { 0 = k })) m n (Some w) → OneSet m n k w
 one_set m n k w updates =
-    let u : hash.UpdatesBy same_name (same_name k) m n (Some w) = updates in
-    record { here = u.1; other = λ q apart. u.2 q (apart_back q k apart) }
+    let u : hash.UpdatesBy (λ (a b : NameKey). same_name a.0 b.0) (λ (key : NameKey). same_name k key.0) m n (Some w) = updates in
+    record { here = u.1; other = λ q apart. u.2 (record { 0 = q }) (apart_back q k apart) }
 
 same_list : (m n : Kept) (q : Name) → kept_at n q ≡ kept_at m q → list_at (lists_of n.entries) q ≡ list_at (lists_of m.entries) q
 same_list m n q same = list_is n q ∙ ap items_in same ∙ sym (list_is m q)

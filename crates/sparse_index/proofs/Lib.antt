@@ -1,4 +1,5 @@
 pub mod BoundLaws
 pub mod KeptLaws
 pub mod LoopLaws
+pub mod StayLaws
 pub mod TestLaws

@@ -9,7 +9,7 @@ ghost use Rattle.ss_base.specs.Standings.{in_front, promoted, without_manifest};
 ghost use Rattle.sparse_index.specs.Lists.{list_at, is_ready, HasRoom, Changes};
 
 use crate::kept::{is_kept, keep, list_of, promote_at, put_at, retire_at};
-use crate::last_bytes::NameMap;
+use crate::name_key::NameMap;
 use arrayvec::ArrayVec;
 use ss_base::{ManifestId, Memory, Name, Standing};
 use std::alloc::Global;
@@ -22,7 +22,7 @@ use std::marker::Model;
 /// kept for it; it stays ready.
 #[derive(Drop)]
 pub struct Index<const L: usize> {
-    lists: NameMap<Name, ArrayVec<Standing, L>>,
+    lists: NameMap<ArrayVec<Standing, L>>,
 }
 
 impl<const L: usize> Model for Index<L> {

@@ -2,8 +2,7 @@
 ghost use Rattle.std.specs.Prelude.{◌≡◌, fold};
 ghost use Rattle.sparse_index.specs.LastBytes.{start, after};
 
-use std::collections::HashMap;
-use std::hash::{BuildHasherDefault, Hasher};
+use std::hash::Hasher;
 
 // The last eight bytes that were written, as one number. The first bits of a hook are 0, its last bytes are as good as
 // random. No secret key is needed: std's own hasher has none, and a name can be chosen only by trying data.
@@ -11,9 +10,6 @@ use std::hash::{BuildHasherDefault, Hasher};
 pub(crate) struct LastBytes {
     state: u64,
 }
-
-// A map that hashes its keys, which are names, by their last bytes.
-pub(crate) type NameMap<K, V> = HashMap<K, V, BuildHasherDefault<LastBytes>>;
 
 impl Default for LastBytes {
     ghost is_default = { λ h. h ≡ start };
@@ -33,12 +29,12 @@ impl Hasher for LastBytes {
     }
 
     fn write(&mut self, bytes: &[u8]) {
+        if let Some(last) = bytes.last_chunk::<8>() {
+            self.state = u64::from_be_bytes(*last);
+            return;
+        }
         for byte in bytes {
             self.state = self.state.wrapping_mul(256) ^ (*byte as u64);
         }
-    }
-
-    fn write_u8(&mut self, byte: u8) {
-        self.state = self.state.wrapping_mul(256) ^ (byte as u64);
     }
 }

@@ -5,6 +5,7 @@ mod index;
 mod kept;
 mod last_bytes;
 mod list;
+mod name_key;
 
 pub use index::Index;
 

@@ -1,8 +1,9 @@
 // What becomes of the list of one hook.
-ghost use Rattle.std.specs.Prelude.{◌≡◌, ◌∷◌, ◌++◌, take, None, if◌then◌else◌};
-ghost use Rattle.std.specs.List.{IsDistinct};
+ghost use Rattle.std.specs.Prelude.{◌≡◌, ◌∷◌, ◌++◌, take, drop, None, if◌then◌else◌};
+ghost use Rattle.std.specs.List.{IsDistinct, list_any};
 ghost use Rattle.std.specs.Option.{option_to_list};
 ghost use Rattle.ss_base.specs.Ids.{same_manifest, has_manifest};
+ghost use Rattle.ss_base.specs.Champions.{stands_in};
 ghost use Rattle.ss_base.specs.Standings.{in_front, standing_of, promoted, without_manifest};
 
 use arrayvec::ArrayVec;
@@ -19,6 +20,23 @@ pub(crate) fn has_manifest(id: ManifestId, ids: &[ManifestId]) -> bool
     ensures { result ≡ has_manifest id ids.now }
 {
     ids.iter().any(|other| same_manifest(id, *other))
+}
+
+#[tactic(auto, unfolding(ss_base::specs::Champions::stands_in))]
+pub(crate) fn stands_in(id: ManifestId, stood: &[Standing]) -> bool
+    ensures { result ≡ stands_in id stood.now }
+{
+    stood.iter().any(|standing| same_manifest(id, standing.id))
+}
+
+// Whether one of the manifests stands behind the first place.
+fn one_stands_behind(ids: &[ManifestId], stood: &[Standing]) -> bool
+    ensures { result ≡ list_any (λ standing. has_manifest standing.id ids.now) (drop 1 stood.now) }
+{
+    stood
+        .iter()
+        .skip(1)
+        .any(|standing| has_manifest(standing.id, ids))
 }
 
 #[tactic(auto, unfolding(ss_base::specs::Standings::standing_of))]
@@ -65,8 +83,20 @@ pub(crate) fn in_front<const L: usize>(
     list
 }
 
+// Moves the champions that stand in the list to its front. Mostly none stands behind its
+// first place, and it stays as it is.
+pub(crate) fn promote<const L: usize>(champions: &[ManifestId], list: &mut ArrayVec<Standing, L>)
+    requires { IsDistinct same_manifest champions.now }
+    ensures { list.new.items ≡ promoted champions.now list.old.items }
+{
+    if one_stands_behind(champions, list.as_slice()) {
+        let changed = promoted(champions, list);
+        *list = changed;
+    }
+}
+
 // The champions that stood, in their order, then the others as they stood.
-pub(crate) fn promoted<const L: usize>(
+fn promoted<const L: usize>(
     champions: &[ManifestId],
     stood: &ArrayVec<Standing, L>,
 ) -> ArrayVec<Standing, L>
@@ -86,8 +116,18 @@ pub(crate) fn promoted<const L: usize>(
     list
 }
 
+// Takes the manifest out of the list, if it stands there.
+pub(crate) fn retire<const L: usize>(id: ManifestId, list: &mut ArrayVec<Standing, L>)
+    ensures { list.new.items ≡ without_manifest id list.old.items }
+{
+    if stands_in(id, list.as_slice()) {
+        let changed = without_manifest(id, list);
+        *list = changed;
+    }
+}
+
 // What stood, without the manifest.
-pub(crate) fn without_manifest<const L: usize>(
+fn without_manifest<const L: usize>(
     id: ManifestId,
     stood: &ArrayVec<Standing, L>,
 ) -> ArrayVec<Standing, L>

@@ -6,7 +6,7 @@ ghost use Rattle.ss_base.specs.Champions.{stands_in};
 ghost use Rattle.sparse_index.specs.Lists.{list_at};
 
 use crate::Index;
-use crate::list::{has_manifest, same_manifest};
+use crate::list::{has_manifest, stands_in};
 use ss_base::{ManifestId, Name, Standing};
 use std::process::Abort;
 use std::test::Fail;
@@ -32,13 +32,6 @@ fn has_name(name: &Name, names: &[Name]) -> bool
     ensures { result ≡ has_name name.now names.now }
 {
     names.iter().any(|other| same_name(name, other))
-}
-
-#[tactic(auto, unfolding(ss_base::specs::Champions::stands_in))]
-fn stands_in(id: ManifestId, stood: &[Standing]) -> bool
-    ensures { result ≡ stands_in id stood.now }
-{
-    stood.iter().any(|standing| same_manifest(id, standing.id))
 }
 
 fn are_distinct(names: &[Name]) -> bool

@@ -10,9 +10,9 @@ pub returns-in-Some : goal.returns-in-Some
 returns-in-Some g c =
     let m = c.args.lists.now in
     let k = c.args.hook.now in
-    let w = c.without_manifest-changed.result in
+    let w = c.retire.new.list in
     let is : kept_at m k ≡ Some c.in-Some.list.now = sym c.get_mut.ensures.value ∙ ap option_copied_mut c.in-Some.is in
-    changed m (c.get_mut.follows.lender w) k w (one_set m (c.get_mut.follows.lender w) k w ((c.get_mut.follows.holds w).3 (search rules))) (without_manifest c.args.id) c.in-Some.list.now is c.without_manifest-changed.ensures
+    changed m (c.get_mut.follows.lender w) k w (one_set m (c.get_mut.follows.lender w) k w ((c.get_mut.follows.holds w).3 (search rules))) (without_manifest c.args.id) c.in-Some.list.now is c.retire.ensures
 
 pub returns-in_default : goal.returns-in_default
 returns-in_default g c =
