@@ -3,7 +3,7 @@ use Rattle.ss_base.specs.Champions.{stands_in, hooks_covered}
 use Rattle.champion_choice.specs.Scores.{hooks_at}
 use Rattle.champion_choice.specs.Lists.{left, covered_by}
 use Rattle.champion_choice.proofs.ListLaws.{lost_none, covered_here, covered_elsewhere, no_less}
-use Rattle.champion_choice.proofs.covered.lower_hook.Goals as goal
+use Rattle.champion_choice.proofs.covered.cover_hook.Goals as goal
 
 pub returns-then-covered-clause-hooks : goal.returns-then-covered-clause-hooks
 returns-then-covered-clause-hooks c q =
