@@ -1,15 +1,16 @@
 -- Scores by their places, and places by ids.
-use Rattle.std.proofs.Common.{◌≡◌, ◌⊎◌, ℕ, zero, suc, ◌+◌, ◌<◌, ◌≤◌, Bool, true, false, cond, List, [], ◌∷◌, ◌++◌, length, take, drop, get_or, set, slice_get, Option, Some, None, refl, sym, ap, ◌∙◌, subst, inl, inr, arith}
+use Rattle.std.proofs.Common.{◌≡◌, ◌⊎◌, ℕ, zero, suc, ◌+◌, ◌<◌, ◌≤◌, Bool, true, false, eqb, eqb-true, cond, ◌||◌, List, [], ◌∷◌, ◌++◌, length, take, drop, get_or, set, slice_get, Option, Some, None, refl, sym, ap, ◌∙◌, subst, inl, inr, arith}
 use Rattle.std.specs.Map.{lookup}
 use Rattle.std.specs.Option.{option_map}
 use Rattle.std.specs.HashMap as hash
-use Rattle.std.proofs.lemmas.Bool.{both_ways, false_from_ne_true, cases_Bool}
+use Rattle.std.proofs.lemmas.Bool.{both_ways, false_from_ne_true, cases_Bool, eq-eqb}
+use Rattle.std.specs.List.{list_any}
 use Rattle.std.proofs.lemmas.List.{take_more, take_all, append-nil, append_assoc}
 use Rattle.ss_base.specs.declared.ids.ManifestId.{ManifestId}
 use Rattle.ss_base.specs.declared.ids.Standing.{Standing}
 use Rattle.ss_base.specs.contracts.ids.ManifestIdPartialEq.TheImpl as id_eq
 use Rattle.ss_base.specs.Ids.{same_manifest}
-use Rattle.ss_base.specs.Champions.{candidates}
+use Rattle.ss_base.specs.Champions.{stands_in, candidates}
 use Rattle.ss_base.proofs.IdLaws.{same_manifest-self, same_manifest-true}
 use Rattle.champion_choice.specs.declared.score.Score.{Score}
 use Rattle.champion_choice.specs.Scores.{Kept, score_at, hooks_in, hooks_at, stamp_at, id_at, AreApart, AreCells, Places, ArePlaces, HasPlace, HasAdded}
@@ -247,6 +248,26 @@ cells_at f [] (x ∷ xs) i c d are below = absurd are
 cells_at f (y ∷ ys) [] i c d are below = absurd are
 cells_at f (y ∷ ys) (x ∷ xs) zero c d are below = (omega arith, are.0)
 cells_at f (y ∷ ys) (x ∷ xs) (suc i) c d are below = let later = cells_at f ys xs i c d are.1 (omega arith) in ((let low = later.0 in omega (arith, low)), later.1)
+
+-- a manifest stands where its place does
+pub stands_by_place : (f : ℕ → Option ManifestId) (cells : List ℕ) (stood : List Standing) (p : ℕ) (id : ManifestId) → AreApart f → f p ≡ Some id → AreCells f cells stood
+    → list_any (λ c. eqb c p) cells ≡ stands_in id stood
+unfolding stands_in
+stands_by_place f [] [] p id apart at are = refl
+stands_by_place f [] (s ∷ ss) p id apart at are = absurd are
+stands_by_place f (c ∷ cs) [] p id apart at are = absurd are
+stands_by_place f (c ∷ cs) (s ∷ ss) p id apart at are =
+    let first : eqb c p ≡ same_manifest id s.id = elim (cases_Bool (same_manifest id s.id)) [
+      | inl same ↦ eq-eqb c p (apart c p id (are.0 ∙ ap Some (sym (same_manifest-true id s.id same))) at) ∙ sym same
+      | inr other ↦ elim (cases_Bool (eqb c p)) [
+        | inl here ↦
+            let one : id ≡ s.id = some_id id s.id (sym at ∙ ap f (sym (eqb-true c p here)) ∙ are.0) in
+            absurd (both_ways (same_manifest id s.id) other (subst (λ (k : ManifestId). same_manifest id k ≡ true) one (same_manifest-self id)))
+        | inr elsewhere ↦ elsewhere ∙ sym other
+      ]
+    ] in
+    let rest = stands_by_place f cs ss p id apart at are.1 in
+    λ j. first j || rest j
 
 -- the places of one list, and of those behind it
 pub record AreSplit (f : ℕ → Option ManifestId) (cells : List ℕ) (xs ys : List Standing) : Type 0 where

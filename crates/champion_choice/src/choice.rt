@@ -27,16 +27,16 @@ pub fn choose<const M: usize>(
     let mut covered = vec![in alloc; false; lists.len()]?;
     let mut chosen = ArrayVec::new();
     for _round in 0..M {
-        let Some((_, score)) = best(scores.as_slice()) else {
+        let Some(champion) = best(scores.as_slice()) else {
             return Ok(chosen);
         };
-        chosen.push(score.id);
+        chosen.push(champion.1.id);
         cover(
             scores.as_mut_slice(),
             cells.as_slice(),
             lists,
             covered.as_mut_slice(),
-            score.id,
+            champion,
         );
     }
     Ok(chosen)

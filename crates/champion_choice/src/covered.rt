@@ -1,7 +1,7 @@
 // Which hooks are covered.
-ghost use Rattle.std.specs.Prelude.{◌≡◌, ℕ, ◌-◌, ◌^◌, ◌<◌, ◌||◌, All, length, OnOk, IfOk};
+ghost use Rattle.std.specs.Prelude.{◌≡◌, ℕ, ◌-◌, ◌^◌, ◌<◌, ◌||◌, ◌==◌, All, length, Some, OnOk, IfOk};
+ghost use Rattle.std.specs.List.{list_any};
 ghost use Rattle.ss_base.specs.declared.ids.ManifestId.{ManifestId as Id};
-ghost use Rattle.ss_base.specs.Ids.{same_manifest};
 ghost use Rattle.ss_base.specs.Champions.{stands_in, hooks_covered};
 ghost use Rattle.champion_choice.specs.Scores.{hooks_at, stamp_at, id_at, AreApart, AreCells, ArePlaces, StandsOnce};
 ghost use Rattle.champion_choice.specs.Lists.{standings, left, remaining, marked, covered_by, HasAddedList, HasCells, IsScored, ArePlaced};
@@ -13,17 +13,11 @@ use std::alloc::Global;
 use std::collections::HashMap;
 use std::hash::BuildHasherDefault;
 
-fn same_manifest(a: ManifestId, b: ManifestId) -> bool
-    ensures { result ≡ same_manifest a b }
+// Whether the place is among the cells.
+fn has_cell(cells: &[usize], place: usize) -> bool
+    ensures { result ≡ list_any (λ cell. cell == place) cells.now }
 {
-    a.session == b.session && a.seq == b.seq
-}
-
-#[tactic(auto, unfolding(ss_base::specs::Champions::stands_in))]
-pub(crate) fn stands_in(id: ManifestId, stood: &[Standing]) -> bool
-    ensures { result ≡ stands_in id stood.now }
-{
-    stood.iter().any(|standing| same_manifest(id, standing.id))
+    cells.iter().any(|cell| *cell == place)
 }
 
 // Counts one hook more for each manifest in the list, and adds the places of their scores.
@@ -67,7 +61,7 @@ pub(crate) fn scores_of(
 {
     let count = count_of(lists);
     let mut places = HashMap::with_capacity_and_hasher(alloc, count, BuildHasherDefault::new())?;
-    let mut scores = Vec::new(alloc);
+    let mut scores = Vec::with_capacity(alloc, count)?;
     let mut cells = Vec::with_capacity(alloc, count)?;
     for stood in lists {
         add_list(&mut places, &mut scores, &mut cells, stood.as_slice())?;
@@ -75,54 +69,56 @@ pub(crate) fn scores_of(
     Ok((scores, cells))
 }
 
-// Whether the hook is covered, or the manifest stands there; then it lowers the scores of what stands there, where it
-// was uncovered.
+// Whether the hook is covered, or the champion stands there; then it lowers the scores of what stands there, where it
+// was uncovered. The champion comes with the place of its score.
 fn cover_hook(
     scores: &mut [Score],
     stood: &[Standing],
     cells: &[usize],
     covered: bool,
-    id: ManifestId,
+    champion: (usize, Score),
 ) -> bool
     requires apart { AreApart (id_at scores.old) }
+    requires champion { id_at scores.old champion.0 ≡ Some champion.1.id }
     requires cells { AreCells (id_at scores.old) cells.now stood.now }
     requires once { StandsOnce stood.now }
-    ensures covered { result ≡ (covered || stands_in id stood.now) }
+    ensures covered { result ≡ (covered || stands_in champion.1.id stood.now) }
     ensures ids { (p : ℕ) → id_at scores.new p ≡ id_at scores.old p }
-    ensures hooks { (q : Id) → hooks_at scores.new q ≡ hooks_at scores.old q - hooks_covered (covered_by id (left covered stood.now)) q }
+    ensures hooks { (q : Id) → hooks_at scores.new q ≡ hooks_at scores.old q - hooks_covered (covered_by champion.1.id (left covered stood.now)) q }
     ensures stamps { (q : Id) → stamp_at scores.new q ≡ stamp_at scores.old q }
 {
     if covered {
         return true;
     }
-    if !stands_in(id, stood) {
+    if !has_cell(cells, champion.0) {
         return false;
     }
     lower(scores, stood, cells);
     true
 }
 
-// Covers the hooks at which the manifest stands, and lowers the scores of what stands at those that were uncovered.
+// Covers the hooks at which the champion stands, and lowers the scores of what stands at those that were uncovered.
 pub(crate) fn cover(
     scores: &mut [Score],
     cells: &[usize],
     lists: &[Vec<Standing>],
     covered: &mut [bool],
-    id: ManifestId,
+    champion: (usize, Score),
 )
     requires once { All StandsOnce (standings lists.now) }
     requires fits { length covered.old ≡ length lists.now }
+    requires champion { id_at scores.old champion.0 ≡ Some champion.1.id }
     requires placed { ArePlaced scores.old cells.now (standings lists.now) }
-    ensures covered { covered.new ≡ marked id (standings lists.now) covered.old }
+    ensures covered { covered.new ≡ marked champion.1.id (standings lists.now) covered.old }
     ensures ids { (p : ℕ) → id_at scores.new p ≡ id_at scores.old p }
-    ensures hooks { (q : Id) → hooks_at scores.new q ≡ hooks_at scores.old q - hooks_covered (covered_by id (remaining covered.old (standings lists.now))) q }
+    ensures hooks { (q : Id) → hooks_at scores.new q ≡ hooks_at scores.old q - hooks_covered (covered_by champion.1.id (remaining covered.old (standings lists.now))) q }
     ensures stamps { (q : Id) → stamp_at scores.new q ≡ stamp_at scores.old q }
 {
     let mut rest = cells;
     for (i, stood) in lists.iter().enumerate() {
         let (own, behind) = rest.split_at(stood.len());
         rest = behind;
-        let now = cover_hook(scores, stood.as_slice(), own, covered[i], id);
+        let now = cover_hook(scores, stood.as_slice(), own, covered[i], champion);
         covered[i] = now;
     }
 }

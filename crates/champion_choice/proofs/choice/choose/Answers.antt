@@ -1,5 +1,6 @@
 use Rattle.std.proofs.Common.{◌≡◌, ℕ, ◌+◌, ◌-◌, ◌++◌, [], ◌∷◌, suc, List, slice_get, length, replicate, false, Option, Some, None, sym, ap, ◌∙◌, subst, arith, rules}
 use Rattle.std.proofs.lemmas.List.{append-nil, append_assoc, length-map, length-replicate, with_items_is}
+use Rattle.std.specs.Option.{option_map}
 use Rattle.std.specs.Vec.{with_items}
 use Rattle.ss_base.specs.Champions.{hooks_covered, uncovered, best, champions}
 use Rattle.champion_choice.specs.declared.score.Score.{Score}
@@ -57,7 +58,7 @@ loop-round-preserved g c =
     let flags = c.loop-round.covered.items in
     let rest = remaining flags all in
     let m = c.loop-round.scores.items in
-    let s = c.in-Some.score in
+    let s = c.in-Some.champion.1 in
     let id = s.id in
     let long = length-map c.args.lists.now (λ v. v.items) in
     let fits : length flags ≡ length all = c.loop-round.invariant.fits ∙ sym long in
@@ -67,8 +68,8 @@ loop-round-preserved g c =
       stamps = c.loop-round.invariant.stamps;
       within = remaining_candidates flags all;
     } in
-    let so = subst (λ (l : List Score). IsBestOf (λ e. slice_get l e.0 ≡ Some e.1) (Some (c.in-Some.field-0-0, s))) c.as_slice.ensures.value c.in-Some.ensures in
-    let first : best rest ≡ Some (record { id = id; stamp = s.stamp }) = best_left m all rest round c.loop-round.invariant.placed.apart c.in-Some.field-0-0 s so in
+    let so = subst (λ (l : List Score). IsBestOf (λ e. slice_get l e.0 ≡ Some e.1) (Some (c.in-Some.champion.0, s))) c.as_slice.ensures.value c.in-Some.ensures in
+    let first : best rest ≡ Some (record { id = id; stamp = s.stamp }) = best_left m all rest round c.loop-round.invariant.placed.apart c.in-Some.champion.0 s so in
     let made : c.cover.new.covered ≡ marked id all flags = c.cover.ensures.covered ∙ ap (λ f. marked id all f) c.as_mut_slice-in-loop-round.ensures.value in
     let same_len : length c.cover.new.covered ≡ c.loop-round.covered.len = ap length made ∙ length_marked id all flags ∙ sym c.loop-round.covered.ok.0 in
     let written = with_items_is c.loop-round.covered c.cover.new.covered same_len ∙ made in
@@ -114,3 +115,8 @@ returns g c =
     sym (append-nil c.loop-round.chosen.items)
     ∙ ap (λ ids. c.loop-round.chosen.items ++ ids) (sym (ap (λ n. champions n rest) over ∙ champions_over rest))
     ∙ c.loop-round.invariant.chosen
+
+pub cover-requires-clause-champion : goal.cover-requires-clause-champion
+cover-requires-clause-champion g c =
+    ap (λ (l : List Score). id_at l c.in-Some.champion.0) (c.as_mut_slice.ensures.value ∙ sym c.as_slice.ensures.value)
+    ∙ ap (option_map (λ (s : Score). s.id)) c.in-Some.ensures.0

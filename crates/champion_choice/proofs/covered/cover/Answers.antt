@@ -13,7 +13,7 @@ loop-i-init c = record {
   covered = refl;
   cells = c.requires.placed.places;
   ids = λ p. refl;
-  hooks = λ q. lost_none c.args.id q (hooks_at c.args.scores.now q);
+  hooks = λ q. lost_none c.args.champion.1.id q (hooks_at c.args.scores.now q);
   stamps = λ q. refl;
 }
 
@@ -60,23 +60,26 @@ loop-i-preserved c =
     let same = item_at c.args.lists.now i c.index-lists-i.result c.as_slice.result.now c.as_slice.ensures.value c.index-lists-i.is in
     let below : i < length all = omega (arith, long) in
     let fits : length c.args.covered.now ≡ length all = c.requires.fits ∙ sym long in
-    let flags = marked c.args.id (take i all) c.args.covered.now in
-    let flag : get_or c.loop-i.covered i false ≡ get_or c.args.covered.now i false = ap (λ (l : List Bool). get_or l i false) c.loop-i.invariant.covered ∙ marked_next c.args.id c.args.covered.now all i false in
+    let flags = marked c.args.champion.1.id (take i all) c.args.covered.now in
+    let flag : get_or c.loop-i.covered i false ≡ get_or c.args.covered.now i false = ap (λ (l : List Bool). get_or l i false) c.loop-i.invariant.covered ∙ marked_next c.args.champion.1.id c.args.covered.now all i false in
     let cells = subst (λ (l : List Standing). AreCells (id_at c.args.scores.now) c.loop-i.rest.now l) (candidates_drop all i d below) c.loop-i.invariant.cells in
     let split = cells_split (id_at c.args.scores.now) c.loop-i.rest.now (get_or all i d) (candidates (drop (i + 1) all)) cells in
     record {
       covered =
           ap (λ (l : List Bool). set l i c.cover_hook-now.result) c.loop-i.invariant.covered
-          ∙ ap (λ b. set flags i b) (c.cover_hook-now.ensures.covered ∙ (λ k. get_or (c.loop-i.invariant.covered k) i false || stands_in c.args.id (same k)))
-          ∙ sym (marked_more c.args.id c.args.covered.now all i false d below fits);
+          ∙ ap (λ b. set flags i b) (c.cover_hook-now.ensures.covered ∙ (λ k. get_or (c.loop-i.invariant.covered k) i false || stands_in c.args.champion.1.id (same k)))
+          ∙ sym (marked_more c.args.champion.1.id c.args.covered.now all i false d below fits);
       cells =
           cells_behind (id_at c.args.scores.now) c.loop-i.rest.now c.split_at.result.1.now c.len.result (get_or all i d) (candidates (drop (i + 1) all))
           c.split_at.ensures.back (c.len.ensures ∙ c.index-lists-i.result.ok.0 ∙ ap length stood) split.behind;
       ids = λ p. c.cover_hook-now.ensures.ids p ∙ c.loop-i.invariant.ids p;
       hooks = λ q.
-          lost_step c.args.id q c.args.covered.now all i false d _ _ _ below fits (c.loop-i.invariant.hooks q)
+          lost_step c.args.champion.1.id q c.args.covered.now all i false d _ _ _ below fits (c.loop-i.invariant.hooks q)
           (c.cover_hook-now.ensures.hooks q
-          ∙ ap (λ (l : List Standing). hooks_at c.loop-i.scores q - hooks_covered (covered_by c.args.id (left (get_or c.loop-i.covered i false) l)) q) same
-          ∙ ap (λ b. hooks_at c.loop-i.scores q - hooks_covered (covered_by c.args.id (left b (get_or all i d))) q) flag);
+          ∙ ap (λ (l : List Standing). hooks_at c.loop-i.scores q - hooks_covered (covered_by c.args.champion.1.id (left (get_or c.loop-i.covered i false) l)) q) same
+          ∙ ap (λ b. hooks_at c.loop-i.scores q - hooks_covered (covered_by c.args.champion.1.id (left b (get_or all i d))) q) flag);
       stamps = λ q. c.cover_hook-now.ensures.stamps q ∙ c.loop-i.invariant.stamps q;
     }
+
+pub cover_hook-now-requires-clause-champion : goal.cover_hook-now-requires-clause-champion
+cover_hook-now-requires-clause-champion c = c.loop-i.invariant.ids c.args.champion.0 ∙ c.requires.champion

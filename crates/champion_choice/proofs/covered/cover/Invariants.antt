@@ -8,9 +8,9 @@ use Rattle.champion_choice.proofs.covered.cover.Given as goal
 
 abbrev pub invariant-loop-i : goal.invariant-loop-i
 invariant-loop-i l = record {
-  covered : l.covered ≡ marked l.id (take l.i (standings l.lists)) l.initial.covered;
+  covered : l.covered ≡ marked l.champion.1.id (take l.i (standings l.lists)) l.initial.covered;
   cells : AreCells (id_at l.initial.scores) l.rest (candidates (drop l.i (standings l.lists)));
   ids : (p : ℕ) → id_at l.scores p ≡ id_at l.initial.scores p;
-  hooks : (q : ManifestId) → hooks_at l.scores q ≡ hooks_at l.initial.scores q - lost l.id l.initial.covered (standings l.lists) l.i q;
+  hooks : (q : ManifestId) → hooks_at l.scores q ≡ hooks_at l.initial.scores q - lost l.champion.1.id l.initial.covered (standings l.lists) l.i q;
   stamps : (q : ManifestId) → stamp_at l.scores q ≡ stamp_at l.initial.scores q;
 }

@@ -10,9 +10,9 @@ use Rattle.champion_choice.proofs.covered.scores_of.Goals as goal
 
 pub loop-stood-init : goal.loop-stood-init
 loop-stood-init c = record {
-  places = places_none c.in_ok-places.places c.new-scores.result.items c.in_ok-places.ensures.empty c.new-scores.ensures.items;
-  scored = scored_none c.new-scores.result.items c.new-scores.ensures.items;
-  cells = cells_start (id_at c.new-scores.result.items) c.in_ok-cells.cells.items c.in_ok-cells.ensures.items;
+  places = places_none c.in_ok-places.places c.in_ok-scores.scores.items c.in_ok-places.ensures.empty c.in_ok-scores.ensures.items;
+  scored = scored_none c.in_ok-scores.scores.items c.in_ok-scores.ensures.items;
+  cells = cells_start (id_at c.in_ok-scores.scores.items) c.in_ok-cells.cells.items c.in_ok-cells.ensures.items;
 }
 
 pub add_list-requires-clause-once : goal.add_list-requires-clause-once
