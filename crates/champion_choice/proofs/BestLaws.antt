@@ -1,18 +1,9 @@
 -- The best by score is the best of the definition.
-use Rattle.std.proofs.Common.{◌≡◌, ◌⊎◌, ℕ, ◌<◌, ◌≤◌, true, false, eqb, ltb, leb, ◌&&◌, List, [], ◌∷◌, Option, Some, None, refl, sym, ap, ◌∙◌, subst, inl, inr, arith, eqb-true}
+use Rattle.std.proofs.Common.{◌≡◌, ◌⊎◌, ℕ, ◌+◌, length, get_or, slice_get, ◌<◌, ◌≤◌, true, false, eqb, ltb, leb, ◌&&◌, List, Option, Some, None, refl, sym, ap, ◌∙◌, subst, inl, inr, arith, eqb-true}
 use Rattle.std.proofs.lemmas.Bool.{both_ways, cases_Bool, and_parts, and_from, or_cases, or_left, or_right, lt-ltb, ltb-true, le-leb, leb-true, eq-eqb, eqb-false, ltb-false, leb-false}
-use Rattle.ss_base.specs.declared.ids.ManifestId.{ManifestId}
-use Rattle.ss_base.specs.Champions.{best}
-use Rattle.ss_base.proofs.MemberLaws.{In}
 use Rattle.champion_choice.specs.declared.score.Score.{Score}
-use Rattle.champion_choice.specs.Scores.{is_ahead, better, best_from}
-
--- ---- the best of some scores
-
--- the best so far of what was seen
-abbrev pub IsBestOf : (ManifestId × Score → Type 0) → Option (ManifestId × Score) → Type 0
-IsBestOf Seen None = (e : ManifestId × Score) → Seen e → e.1.hooks ≡ 0
-IsBestOf Seen (Some b) = Seen b × (0 < b.1.hooks) × ((e : ManifestId × Score) → Seen e → is_ahead b.1 e.1 ≡ true)
+use Rattle.champion_choice.proofs.PlaceLaws.{get_here, get_below}
+use Rattle.champion_choice.specs.Scores.{is_ahead, better, IsBestOf}
 
 -- ahead, as an order on numbers
 abbrev pub IsAhead : Score → Score → Type 0
@@ -57,15 +48,15 @@ behind a b e = true-ahead b a (elim (cases_Bool (ltb b.hooks a.hooks)) [
 above_zero : (n : ℕ) → eqb n 0 ≡ false → 0 < n
 above_zero n e = let ne = eqb-false n 0 e in omega (arith, ne)
 
-pub better_of : (Seen : ManifestId × Score → Type 0) (best : Option (ManifestId × Score)) (x : ManifestId × Score) → IsBestOf Seen best → IsBestOf (λ e. Seen e ⊎ (x ≡ e)) (better best x)
+pub better_of : (Seen : ℕ × Score → Type 0) (best : Option (ℕ × Score)) (x : ℕ × Score) → IsBestOf Seen best → IsBestOf (λ e. Seen e ⊎ (x ≡ e)) (better best x)
 better_of Seen None x so = elim (cases_Bool (eqb x.1.hooks 0)) [
-  | inl none ↦ rw none (λ e seen. elim seen [ inl old ↦ so e old | inr same ↦ ap (λ (s : ManifestId × Score). s.1.hooks) (sym same) ∙ eqb-true x.1.hooks 0 none ])
+  | inl none ↦ rw none (λ e seen. elim seen [ inl old ↦ so e old | inr same ↦ ap (λ (s : ℕ × Score). s.1.hooks) (sym same) ∙ eqb-true x.1.hooks 0 none ])
   | inr some ↦ rw some (
     inr refl,
     above_zero x.1.hooks some,
     (λ e seen. elim seen [
       | inl old ↦ true-ahead x.1 e.1 (inl (let zero_is = so e old in let above = above_zero x.1.hooks some in omega (arith, zero_is, above)))
-      | inr same ↦ subst (λ (s : ManifestId × Score). is_ahead x.1 s.1 ≡ true) same (ahead_itself x.1)
+      | inr same ↦ subst (λ (s : ℕ × Score). is_ahead x.1 s.1 ≡ true) same (ahead_itself x.1)
     ]),
   )
 ]
@@ -75,7 +66,7 @@ better_of Seen (Some b) x so = elim (cases_Bool (is_ahead x.1 b.1)) [
     elim (ahead-true x.1 b.1 wins) as (λ _. 0 < x.1.hooks) [ inl more ↦ (let low = so.1 in omega (arith, low, more)) | inr tie ↦ (let low = so.1 in let e = tie.0 in omega (arith, low, e)) ],
     (λ e seen. elim seen [
       | inl old ↦ ahead_trans x.1 b.1 e.1 wins (so.2 e old)
-      | inr same ↦ subst (λ (s : ManifestId × Score). is_ahead x.1 s.1 ≡ true) same (ahead_itself x.1)
+      | inr same ↦ subst (λ (s : ℕ × Score). is_ahead x.1 s.1 ≡ true) same (ahead_itself x.1)
     ]),
   )
   | inr loses ↦ rw loses (
@@ -83,26 +74,45 @@ better_of Seen (Some b) x so = elim (cases_Bool (is_ahead x.1 b.1)) [
     so.1,
     (λ e seen. elim seen [
       | inl old ↦ so.2 e old
-      | inr same ↦ subst (λ (s : ManifestId × Score). is_ahead b.1 s.1 ≡ true) same (behind x.1 b.1 loses)
+      | inr same ↦ subst (λ (s : ℕ × Score). is_ahead b.1 s.1 ≡ true) same (behind x.1 b.1 loses)
     ]),
   )
 ]
 
-widened : (Seen Also : ManifestId × Score → Type 0) → ((e : ManifestId × Score) → Seen e → Also e) → ((e : ManifestId × Score) → Also e → Seen e) → (best : Option (ManifestId × Score)) → IsBestOf Seen best → IsBestOf Also best
+pub widened : (Seen Also : ℕ × Score → Type 0) → ((e : ℕ × Score) → Seen e → Also e) → ((e : ℕ × Score) → Also e → Seen e) → (best : Option (ℕ × Score)) → IsBestOf Seen best → IsBestOf Also best
 widened Seen Also to from None so = λ e also. so e (from e also)
 widened Seen Also to from (Some b) so = (to b so.0, so.1, (λ e also. so.2 e (from e also)))
 
-pub best_from_is : (Seen : ManifestId × Score → Type 0) (best : Option (ManifestId × Score)) (es : List (ManifestId × Score)) → IsBestOf Seen best → IsBestOf (λ e. Seen e ⊎ In e es) (best_from best es)
-best_from_is Seen best [] so = widened Seen (λ e. Seen e ⊎ ⊥) (λ e seen. inl seen) (λ e also. elim also [ inl seen ↦ seen | inr none ↦ absurd none ]) best so
-best_from_is Seen best (x ∷ es) so =
-    widened (λ e. (Seen e ⊎ (x ≡ e)) ⊎ In e es) (λ e. Seen e ⊎ ((x ≡ e) ⊎ In e es))
-    (λ e seen. elim seen [ inl old ↦ elim old [ inl was ↦ inl was | inr here ↦ inr (inl here) ] | inr later ↦ inr (inr later) ])
-    (λ e also. elim also [ inl was ↦ inl (inl was) | inr old ↦ elim old [ inl here ↦ inl (inr here) | inr later ↦ inr later ] ])
-    (best_from (better best x) es)
-    (best_from_is (λ e. Seen e ⊎ (x ≡ e)) (better best x) es (better_of Seen best x so))
+-- none has been seen
+pub best_none : (Seen : ℕ × Score → Type 0) → ((e : ℕ × Score) → Seen e → ⊥) → IsBestOf Seen None
+best_none Seen none e seen = absurd (none e seen)
 
--- the best of all these scores
-pub best_of : (es : List (ManifestId × Score)) → IsBestOf (λ e. In e es) (best_from None es)
-best_of es =
-    widened (λ e. ⊥ ⊎ In e es) (λ e. In e es) (λ e seen. elim seen [ inl none ↦ absurd none | inr there ↦ there ]) (λ e there. inr there) (best_from None es)
-    (best_from_is (λ e. ⊥) None es (λ e none. absurd none))
+-- one place more has been seen
+pub best_more : (m : List Score) (i : ℕ) (d : Score) (best : Option (ℕ × Score)) → i < length m
+    → IsBestOf (λ e. (e.0 < i) × (slice_get m e.0 ≡ Some e.1)) best → IsBestOf (λ e. (e.0 < i + 1) × (slice_get m e.0 ≡ Some e.1)) (better best (i, get_or m i d))
+best_more m i d best below so =
+    let x : ℕ × Score = (i, get_or m i d) in
+    widened (λ e. ((e.0 < i) × (slice_get m e.0 ≡ Some e.1)) ⊎ (x ≡ e)) (λ e. (e.0 < i + 1) × (slice_get m e.0 ≡ Some e.1))
+    (λ e seen. elim seen [
+      | inl old ↦ ((let low = old.0 in omega (arith, low)), old.1)
+      | inr same ↦ subst (λ (y : ℕ × Score). (y.0 < i + 1) × (slice_get m y.0 ≡ Some y.1)) same (omega arith, get_here m i d below)
+    ])
+    (λ e seen. elim (cases_Bool (ltb e.0 i)) [
+      | inl low ↦ inl (ltb-true e.0 i low, seen.1)
+      | inr high ↦
+          let place : i ≡ e.0 = (let top = seen.0 in let no = ltb-false e.0 i high in omega (arith, top, no)) in
+          let score : get_or m i d ≡ e.1 = some_score (get_or m i d) e.1 (sym (get_here m i d below) ∙ ap (slice_get m) place ∙ seen.1) in
+          inr (λ j. (place j, score j))
+    ])
+    (better best x)
+    (better_of (λ e. (e.0 < i) × (slice_get m e.0 ≡ Some e.1)) best x so)
+  where
+    some_score : (a b : Score) → Some a ≡ Some b → a ≡ b
+    some_score a b e = cc
+
+-- all places have been seen
+pub best_all : (m : List Score) (i : ℕ) (best : Option (ℕ × Score)) → length m ≤ i
+    → IsBestOf (λ e. (e.0 < i) × (slice_get m e.0 ≡ Some e.1)) best → IsBestOf (λ e. slice_get m e.0 ≡ Some e.1) best
+best_all m i best over so =
+    widened (λ e. (e.0 < i) × (slice_get m e.0 ≡ Some e.1)) (λ e. slice_get m e.0 ≡ Some e.1) (λ e seen. seen.1)
+    (λ e seen. ((let low = get_below m e.0 e.1 seen in omega (arith, low, over)), seen)) best so

@@ -1,27 +1,20 @@
 -- The best by score is the best of the definition, round by round.
-use Rattle.std.proofs.Common.{◌≡◌, ℕ, zero, suc, ◌<◌, Bool, true, false, eqb, ltb, leb, cond, ◌&&◌, ◌||◌, List, [], ◌∷◌, Option, Some, None, refl, sym, ap, ◌∙◌, subst, inl, inr, arith, eqb-true}
+use Rattle.std.proofs.Common.{◌≡◌, ℕ, zero, suc, ◌<◌, Bool, true, false, eqb, ltb, leb, cond, ◌&&◌, ◌||◌, List, [], ◌∷◌, slice_get, Option, Some, None, refl, sym, ap, ◌∙◌, subst, inl, inr, arith, eqb-true}
 use Rattle.std.specs.List.{find, list_any, list_all, Contains}
-use Rattle.std.specs.Option.{IfSome, option_map_or, option_map}
-use Rattle.std.specs.Map.{lookup}
-use Rattle.std.specs.Cmp.{IsEquivalence}
-use Rattle.std.specs.HashMap as hash
+use Rattle.std.specs.Option.{option_map_or, option_map}
 use Rattle.std.proofs.lemmas.Bool.{both_ways, cases_Bool, and_parts, and_from, or_cases, ltb-true, leb-true, eq-eqb}
-use Rattle.std.proofs.lemmas.Cmp.{eq_by_cmp_equiv}
-use Rattle.std.proofs.lemmas.Map.Views.{lookup-from_Contains}
 use Rattle.std.proofs.lemmas.List.Folds.{sum_by-zero}
 use Rattle.ss_base.specs.declared.ids.ManifestId.{ManifestId}
 use Rattle.ss_base.specs.declared.ids.Standing.{Standing}
 use Rattle.ss_base.specs.Ids.{same_manifest}
-use Rattle.ss_base.specs.contracts.ids.ManifestIdOrd.TheImpl.Laws.{total-law}
 use Rattle.ss_base.specs.Champions.{stands_in, hooks_covered, is_at_least, candidates, is_unbeaten, best, uncovered, champions}
 use Rattle.ss_base.proofs.IdLaws.{same_manifest-self, same_manifest-true}
-use Rattle.ss_base.proofs.OrderLaws.{manifests_tied}
 use Rattle.ss_base.proofs.MemberLaws.{In, any_in, in_any, all_in, flat_map_in, count_none, in_append_left, in_append_right}
 use Rattle.champion_choice.specs.declared.score.Score.{Score}
-use Rattle.champion_choice.specs.Scores.{Kept, score_at, hooks_in, hooks_at, stamp_at, is_ahead}
+use Rattle.champion_choice.specs.Scores.{Kept, score_at, hooks_in, hooks_at, stamp_at, id_at, AreApart, is_ahead, IsBestOf}
 use Rattle.champion_choice.specs.Lists.{StampsTell, remaining}
 use Rattle.champion_choice.proofs.ListLaws.{remaining_in}
-use Rattle.champion_choice.proofs.BestLaws.{IsBestOf}
+use Rattle.champion_choice.proofs.PlaceLaws.{score_of, place_found}
 
 -- ---- lists
 
@@ -92,33 +85,12 @@ remaining_candidates flags lists x h =
     let at = candidate_of x (remaining flags lists) h in
     in_candidates x at.0 lists (remaining_in flags lists at.0 at.1) at.2
 
--- ---- entries
-
-lookup_in : (q : ManifestId) (s : Score) (es : List (ManifestId × Score)) → lookup (same_manifest q) es ≡ Some s → In (q, s) es
-lookup_in q s [] is = absurd (cc)
-lookup_in q s (e ∷ es) is = elim (cases_Bool (same_manifest q e.0)) [
-  | inl same ↦
-      let id : q ≡ e.0 = same_manifest-true q e.0 same in
-      let score : e.1 ≡ s = some_is e.1 s (sym (ap (λ b. cond b (Some e.1) (lookup (same_manifest q) es)) same) ∙ is) in
-      inl (λ j. (sym id j, score j))
-  | inr apart ↦ inr (lookup_in q s es (sym (ap (λ b. cond b (Some e.1) (lookup (same_manifest q) es)) apart) ∙ is))
-]
-  where
-    some_is : (a b : Score) → Some a ≡ Some b → a ≡ b
-    some_is a b e = cc
+-- ---- scores
 
 -- a manifest that has hooks has a score
 scored : (o : Option Score) → 0 < hooks_in o → (s : Score) × (o ≡ Some s)
 scored None some = absurd (omega arith)
 scored (Some s) some = (s, refl)
-
-ids_equal : IsEquivalence same_manifest
-ids_equal = subst IsEquivalence (λ i a b. manifests_tied a b i) (eq_by_cmp_equiv total-law)
-
--- the best of the entries is found there
-pub found_best : (m : Kept) → hash.IsUnique same_manifest m → (o : Option (ManifestId × Score)) → IsBestOf (λ e. In e m.entries) o → IfSome o (λ (e : ManifestId × Score). score_at m e.0 ≡ Some e.1)
-found_best m unique None so = tt
-found_best m unique (Some b) so = lookup-from_Contains ids_equal b.0 b.1 m.entries unique (In-contains b m.entries so.0)
 
 -- ---- one round
 
@@ -142,28 +114,32 @@ module _ (m : Kept) (all rest : List (List Standing)) (round : IsRound m all res
   has_score : (x : Standing) → In x (candidates rest) → (s : Score) × (score_at m x.id ≡ Some s)
   has_score x h = scored (score_at m x.id) (let some = counted x rest h in let same = round.hooks x.id in omega (arith, some, same))
 
-  pub none_left : IsBestOf (λ e. In e m.entries) None → best rest ≡ None
+  pub none_left : IsBestOf (λ e. slice_get m e.0 ≡ Some e.1) None → best rest ≡ None
   unfolding best
   none_left so = ap (λ xs. find (λ a. is_unbeaten rest (candidates rest) a) xs) (nothing (candidates rest) (λ x h.
       let s = has_score x h in
-      let zero_is : (s.0).hooks ≡ 0 = so (x.id, s.0) (lookup_in x.id s.0 m.entries s.1) in
+      let at = place_found m x.id s.0 s.1 in
+      let zero_is : (s.0).hooks ≡ 0 = so (at.0, s.0) at.1 in
       let same : (s.0).hooks ≡ hooks_covered rest x.id = sym (ap hooks_in s.1) ∙ round.hooks x.id in
       let some = counted x rest h in
       absurd (omega (arith, zero_is, same, some))))
 
-  module _ (id : ManifestId) (s : Score) (found : score_at m id ≡ Some s) (so : IsBestOf (λ e. In e m.entries) (Some (id, s))) where
+  module _ (apart : AreApart (id_at m)) (place : ℕ) (s : Score) (so : IsBestOf (λ e. slice_get m e.0 ≡ Some e.1) (Some (place, s))) where
     first : Standing
-    first = record { id = id; stamp = s.stamp }
+    first = record { id = s.id; stamp = s.stamp }
 
-    first_hooks : hooks_covered rest id ≡ s.hooks
-    first_hooks = sym (round.hooks id) ∙ ap hooks_in found
+    found : score_at m s.id ≡ Some s
+    found = score_of m place s apart so.0
+
+    first_hooks : hooks_covered rest s.id ≡ s.hooks
+    first_hooks = sym (round.hooks s.id) ∙ ap hooks_in found
 
     first_there : In first (candidates rest)
     unfolding first
     first_there =
-        let some : 0 < hooks_covered rest id = let low = so.1 in let e = first_hooks in omega (arith, low, e) in
-        let at = stands_somewhere id rest some in
-        let stamp : (at.0).stamp ≡ s.stamp = same_stamp all round.tell at.0 first (round.within at.0 at.1) (round.stamps id s.stamp (ap (option_map (λ (x : Score). x.stamp)) found)) (sym at.2) in
+        let some : 0 < hooks_covered rest s.id = let low = so.1 in let e = first_hooks in omega (arith, low, e) in
+        let at = stands_somewhere s.id rest some in
+        let stamp : (at.0).stamp ≡ s.stamp = same_stamp all round.tell at.0 first (round.within at.0 at.1) (round.stamps s.id s.stamp (ap (option_map (λ (x : Score). x.stamp)) found)) (sym at.2) in
         let whole : at.0 ≡ first = λ j. record { id = sym at.2 j; stamp = stamp j } in
         subst (λ (x : Standing). In x (candidates rest)) whole at.1
 
@@ -171,7 +147,8 @@ module _ (m : Kept) (all rest : List (List Standing)) (round : IsRound m all res
     unfolding is_at_least first
     first_beats x h =
         let t = has_score x h in
-        let ahead : is_ahead s t.0 ≡ true = so.2 (x.id, t.0) (lookup_in x.id t.0 m.entries t.1) in
+        let at = place_found m x.id t.0 t.1 in
+        let ahead : is_ahead s t.0 ≡ true = so.2 (at.0, t.0) at.1 in
         let theirs : hooks_covered rest x.id ≡ (t.0).hooks = sym (round.hooks x.id) ∙ ap hooks_in t.1 in
         let y : Standing = record { id = x.id; stamp = (t.0).stamp } in
         let stamp : x.stamp ≡ (t.0).stamp = same_stamp all round.tell x y (round.within x h) (round.stamps x.id (t.0).stamp (ap (option_map (λ (z : Score). z.stamp)) t.1)) refl in
@@ -199,7 +176,7 @@ module _ (m : Kept) (all rest : List (List Standing)) (round : IsRound m all res
           ]
         ]
 
-    pub best_left : best rest ≡ Some (record { id = id; stamp = s.stamp })
+    pub best_left : best rest ≡ Some (record { id = s.id; stamp = s.stamp })
     unfolding best is_unbeaten first
     best_left =
         find_first (λ a. is_unbeaten rest (candidates rest) a) first (candidates rest) first_there

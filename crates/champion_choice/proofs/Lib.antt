@@ -1,3 +1,4 @@
+pub mod PlaceLaws
 pub mod ScoreLaws
 pub mod ListLaws
 pub mod BestLaws

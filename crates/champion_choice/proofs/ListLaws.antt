@@ -1,7 +1,5 @@
 -- Lists of hooks, of which some are covered.
-use Rattle.std.proofs.Common.{◌≡◌, ℕ, zero, suc, ◌+◌, ◌-◌, ◌<◌, ◌≤◌, Bool, true, false, cond, not, ◌||◌, List, [], ◌∷◌, ◌++◌, length, take, get_or, set, replicate, None, Vec, Global, refl, sym, ap, ◌∙◌, subst, inl, inr, arith}
-use Rattle.std.specs.Map.{lookup}
-use Rattle.std.specs.Option.{option_map}
+use Rattle.std.proofs.Common.{◌≡◌, ℕ, zero, suc, ◌+◌, ◌-◌, ◌<◌, ◌≤◌, Bool, true, false, cond, not, ◌||◌, List, [], ◌∷◌, ◌++◌, length, take, drop, get_or, set, replicate, None, Vec, Global, refl, sym, ap, ◌∙◌, subst, inl, inr, arith}
 use Rattle.std.proofs.lemmas.Bool.{cases_Bool}
 use Rattle.std.proofs.lemmas.List.{take_more, append-nil, append_assoc, length-take}
 use Rattle.std.proofs.lemmas.List.Elements.{filter-append}
@@ -10,12 +8,13 @@ use Rattle.std.proofs.lemmas.List.Filters.{sum_by-filter_both}
 use Rattle.std.proofs.lemmas.Grind.{flat_map-append}
 use Rattle.ss_base.specs.declared.ids.ManifestId.{ManifestId}
 use Rattle.ss_base.specs.declared.ids.Standing.{Standing}
-use Rattle.ss_base.specs.Ids.{same_manifest}
 use Rattle.ss_base.specs.Champions.{stands_in, hooks_covered, candidates, uncovered}
 use Rattle.ss_base.proofs.MemberLaws.{In, in_append_left, in_append_right, count_one, count_other}
-use Rattle.champion_choice.specs.declared.score.Score.{Score}
-use Rattle.champion_choice.specs.Scores.{Kept, hooks_in, stamp_at, one_if}
+use Rattle.champion_choice.specs.Scores.{Kept, hooks_at, stamp_at, one_if}
 use Rattle.champion_choice.specs.Lists.{standings, left, remaining, marked, covered_by, HasAddedList, IsScored}
+
+plus_one : (i : ℕ) → suc i ≡ i + 1
+plus_one i = omega arith
 
 -- ---- counts
 
@@ -68,10 +67,10 @@ candidates_more lists i d below =
     ∙ ap (λ l. candidates (take i lists) ++ l) (candidates_single (get_or lists i d))
 
 -- no list has no scores
-pub scored_none : (m : Kept) → m.entries ≡ [] → IsScored m []
+pub scored_none : (m : Kept) → m ≡ [] → IsScored m []
 scored_none m empty = record {
-  hooks = λ q. ap (λ es. hooks_in (lookup (same_manifest q) es)) empty ∙ sym (count_nil q);
-  stamps = λ q t is. let none : stamp_at m q ≡ None = ap (λ es. option_map (λ (s : Score). s.stamp) (lookup (same_manifest q) es)) empty in absurd (cc);
+  hooks = λ q. ap (λ es. hooks_at es q) empty ∙ sym (count_nil q);
+  stamps = λ q t is. let none : stamp_at m q ≡ None = ap (λ es. stamp_at es q) empty in absurd (cc);
 }
 
 -- the scores of one list more
@@ -87,10 +86,17 @@ scored_more lists i d old new below so to = record {
       ]);
 }
 
--- ---- the hooks that are not covered
+-- what stands in a list, and in those behind it
+drop_candidates : (lists : List (List Standing)) (i : ℕ) (d : List Standing) → i < length lists → candidates (drop i lists) ≡ get_or lists i d ++ candidates (drop (suc i) lists)
+unfolding candidates
+drop_candidates [] i d below = absurd (omega arith)
+drop_candidates (l ∷ ls) zero d below = refl
+drop_candidates (l ∷ ls) (suc i) d below = drop_candidates ls i d (omega arith)
 
-plus_one : (i : ℕ) → suc i ≡ i + 1
-plus_one i = omega arith
+pub candidates_drop : (lists : List (List Standing)) (i : ℕ) (d : List Standing) → i < length lists → candidates (drop i lists) ≡ get_or lists i d ++ candidates (drop (i + 1) lists)
+candidates_drop lists i d below = drop_candidates lists i d below ∙ ap (λ n. get_or lists i d ++ candidates (drop n lists)) (plus_one i)
+
+-- ---- the hooks that are not covered
 
 remaining_more : (flags : List Bool) (lists : List (List Standing)) (i : ℕ) (c : Bool) (d : List Standing) → i < length lists → length flags ≡ length lists
     → remaining (take (suc i) flags) (take (suc i) lists) ≡ remaining (take i flags) (take i lists) ++ left (get_or flags i c) (get_or lists i d)
@@ -166,6 +172,15 @@ pub marked_more : (id : ManifestId) (flags : List Bool) (lists : List (List Stan
 marked_more id flags lists i c d below same =
     ap (λ n. marked id (take n lists) flags) (sym (plus_one i)) ∙ marked_one id flags lists i c d below same
 
+-- the next one is as it was
+pub marked_next : (id : ManifestId) (flags : List Bool) (lists : List (List Standing)) (i : ℕ) (c : Bool) → get_or (marked id (take i lists) flags) i c ≡ get_or flags i c
+marked_next id flags [] zero c = refl
+marked_next id flags [] (suc i) c = refl
+marked_next id [] (l ∷ ls) zero c = refl
+marked_next id [] (l ∷ ls) (suc i) c = refl
+marked_next id (f ∷ fs) (l ∷ ls) zero c = refl
+marked_next id (f ∷ fs) (l ∷ ls) (suc i) c = marked_next id fs ls i c
+
 pub length_marked : (id : ManifestId) (lists : List (List Standing)) (flags : List Bool) → length (marked id lists flags) ≡ length flags
 length_marked id [] flags = refl
 length_marked id (l ∷ ls) [] = refl
@@ -195,7 +210,7 @@ remaining_marked id (false ∷ fs) (l ∷ ls) same =
 
 -- ---- the lists that vectors hold
 
-items_at : (lists : List (Vec Standing Global)) (i : ℕ) (v : Vec Standing Global) → get_or (standings lists) i v.items ≡ (get_or lists i v).items
+pub items_at : (lists : List (Vec Standing Global)) (i : ℕ) (v : Vec Standing Global) → get_or (standings lists) i v.items ≡ (get_or lists i v).items
 items_at [] i v = refl
 items_at (l ∷ ls) zero v = refl
 items_at (l ∷ ls) (suc i) v = items_at ls i v

@@ -1,32 +1,23 @@
 -- Scores that are kept, by id.
-use Rattle.std.proofs.Common.{◌≡◌, ℕ, zero, suc, ◌+◌, ◌-◌, ◌<◌, Bool, true, false, cond, ◌||◌, List, [], ◌∷◌, length, take, get_or, Some, refl, sym, ap, ◌∙◌, subst, inl, inr, arith}
+use Rattle.std.proofs.Common.{◌≡◌, ℕ, zero, suc, ◌+◌, ◌-◌, ◌<◌, Bool, true, false, ◌||◌, List, [], ◌∷◌, length, take, get_or, set, slice_get, Some, refl, sym, ap, ◌∙◌, subst, inl, inr, arith}
 use Rattle.std.specs.Option.{option_map}
 use Rattle.std.specs.List.{AllByRecursion}
-use Rattle.std.specs.HashMap as hash
-use Rattle.std.proofs.lemmas.Bool.{both_ways, false_from_ne_true, cases_Bool}
+use Rattle.std.proofs.lemmas.Bool.{both_ways, cases_Bool}
 use Rattle.std.proofs.lemmas.Map.Keys.{IsDistinct-head, IsDistinct-tail}
 use Rattle.std.proofs.lemmas.List.{take_more}
 use Rattle.std.proofs.lemmas.List.Folds.{list_any_more}
 use Rattle.ss_base.specs.declared.ids.ManifestId.{ManifestId}
 use Rattle.ss_base.specs.declared.ids.Standing.{Standing}
-use Rattle.ss_base.specs.contracts.ids.ManifestIdPartialEq.TheImpl as id_eq
 use Rattle.ss_base.specs.Ids.{same_manifest}
 use Rattle.ss_base.specs.Champions.{stands_in}
 use Rattle.ss_base.proofs.IdLaws.{same_manifest-self, same_manifest-true}
 use Rattle.champion_choice.specs.declared.score.Score.{Score}
-use Rattle.champion_choice.specs.Scores.{Kept, score_at, hooks_in, hooks_at, stamp_at, one_if, HasAdded, HasTaken, HasLowered, StandsOnce}
+use Rattle.champion_choice.specs.Scores.{Kept, score_at, hooks_in, hooks_at, stamp_at, id_at, one_if, AreApart, Places, ArePlaces, HasPlace, HasAdded, HasLowered, StandsOnce}
+use Rattle.champion_choice.proofs.PlaceLaws.{apart_back, apart_same, score_of, set_other, set_ids, set_here, get_here, id_here, id_below, places_apart}
 use Rattle.ss_base.proofs.MemberLaws.{In, in_append_left, in_append_right}
 use Rattle.champion_choice.specs.Lists.{HasAddedList}
 
 -- ---- ids
-
--- the test that the derive gives
-abbrev pub derived : ManifestId → ManifestId → Bool
-derived = (id_eq.ghosts).eq
-
-pub apart_back : (a b : ManifestId) → same_manifest a b ≡ false → same_manifest b a ≡ false
-apart_back a b apart = false_from_ne_true (same_manifest b a) (λ same.
-    both_ways (same_manifest a b) apart (subst (λ (x : ManifestId). same_manifest x b ≡ true) (same_manifest-true b a same) (same_manifest-self b)))
 
 -- what holds of one id and of each other holds of all
 pub by_id : (P : ManifestId → Type 0) (k : ManifestId) → P k → ((q : ManifestId) → same_manifest q k ≡ false → P q) → (q : ManifestId) → P q
@@ -42,10 +33,12 @@ pub record OneSet (m n : Kept) (k : ManifestId) (w : Score) : Type 0 where
   pub here : score_at n k ≡ Some w
   pub other : (q : ManifestId) → same_manifest q k ≡ false → score_at n q ≡ score_at m q
 
-pub one_set : (m n : Kept) (k : ManifestId) (w : Score) → hash.UpdatesBy derived (derived k) m n (Some w) → OneSet m n k w
-one_set m n k w updates =
-    let u : hash.UpdatesBy same_manifest (same_manifest k) m n (Some w) = updates in
-    record { here = u.1; other = λ q apart. u.2 q (apart_back q k apart) }
+one_set : (m : Kept) (p : ℕ) (s w : Score) → AreApart (id_at m) → slice_get m p ≡ Some s → w.id ≡ s.id → OneSet m (set m p w) s.id w
+one_set m p s w apart is same = record {
+  here = subst (λ (q : ManifestId). score_at (set m p w) q ≡ Some w) same
+      (score_of (set m p w) p w (apart_same (id_at m) (id_at (set m p w)) (λ r. set_ids m p s w r is same) apart) (set_here m p s w is));
+  other = λ q other. set_other m p s w q is other (subst (λ (k : ManifestId). same_manifest q k ≡ false) (sym same) other);
+}
 
 no_more : (a b : ℕ) → a ≡ b → a ≡ b + 0
 no_more a b e = omega arith
@@ -53,26 +46,77 @@ no_more a b e = omega arith
 no_less : (a b : ℕ) → a ≡ b → a ≡ b - 0
 no_less a b e = omega arith
 
-module _ (m n : Kept) where
-  pub added : (s : Standing) (w : Score) → OneSet m n s.id w → w.stamp ≡ s.stamp → w.hooks ≡ hooks_at m s.id + 1 → HasAdded m n s
-  added s w to stamp hooks = record {
-    hooks = by_id (λ q. hooks_at n q ≡ hooks_at m q + one_if (same_manifest q s.id)) s.id
-        (ap hooks_in to.here ∙ hooks ∙ ap (λ b. hooks_at m s.id + one_if b) (sym (same_manifest-self s.id)))
-        (λ q apart. no_more (hooks_at n q) (hooks_at m q) (ap hooks_in (to.other q apart)) ∙ ap (λ b. hooks_at m q + one_if b) (sym apart));
-    stamps = by_id (λ q. stamp_at n q ≡ cond (same_manifest q s.id) (Some s.stamp) (stamp_at m q)) s.id
-        (ap (option_map (λ x. x.stamp)) to.here ∙ ap Some stamp ∙ ap (λ b. cond b (Some s.stamp) (stamp_at m s.id)) (sym (same_manifest-self s.id)))
-        (λ q apart. ap (option_map (λ x. x.stamp)) (to.other q apart) ∙ ap (λ b. cond b (Some s.stamp) (stamp_at m q)) (sym apart));
-  }
+-- the manifest stands at one hook more, or at one less
+pub record OneMore (m n : Kept) (k : ManifestId) : Type 0 where
+  pub ids : (p : ℕ) → id_at n p ≡ id_at m p
+  pub hooks : (q : ManifestId) → hooks_at n q ≡ hooks_at m q + one_if (same_manifest q k)
+  pub stamps : (q : ManifestId) → stamp_at n q ≡ stamp_at m q
 
-  pub taken : (k : ManifestId) (was w : Score) → OneSet m n k w → score_at m k ≡ Some was → w.stamp ≡ was.stamp → w.hooks ≡ was.hooks - 1 → HasTaken m n k
-  taken k was w to is stamp hooks = record {
-    hooks = by_id (λ q. hooks_at n q ≡ hooks_at m q - one_if (same_manifest q k)) k
-        (ap hooks_in to.here ∙ hooks ∙ ap (λ o. hooks_in o - 1) (sym is) ∙ ap (λ b. hooks_at m k - one_if b) (sym (same_manifest-self k)))
-        (λ q apart. no_less (hooks_at n q) (hooks_at m q) (ap hooks_in (to.other q apart)) ∙ ap (λ b. hooks_at m q - one_if b) (sym apart));
-    stamps = by_id (λ q. stamp_at n q ≡ stamp_at m q) k
-        (ap (option_map (λ x. x.stamp)) to.here ∙ ap Some stamp ∙ sym (ap (option_map (λ x. x.stamp)) is))
-        (λ q apart. ap (option_map (λ x. x.stamp)) (to.other q apart));
-  }
+pub record OneLess (m n : Kept) (k : ManifestId) : Type 0 where
+  pub ids : (p : ℕ) → id_at n p ≡ id_at m p
+  pub hooks : (q : ManifestId) → hooks_at n q ≡ hooks_at m q - one_if (same_manifest q k)
+  pub stamps : (q : ManifestId) → stamp_at n q ≡ stamp_at m q
+
+module _ (m : Kept) (p : ℕ) (s w : Score) (apart : AreApart (id_at m)) (is : slice_get m p ≡ Some s) (id : w.id ≡ s.id) (stamp : w.stamp ≡ s.stamp) where
+  n : Kept
+  n = set m p w
+
+  was : score_at m s.id ≡ Some s
+  was = score_of m p s apart is
+
+  stamps_stay : (q : ManifestId) → stamp_at (set m p w) q ≡ stamp_at m q
+  stamps_stay =
+      let to = one_set m p s w apart is id in
+      by_id (λ q. stamp_at (set m p w) q ≡ stamp_at m q) s.id
+      (ap (option_map (λ (x : Score). x.stamp)) to.here ∙ ap Some stamp ∙ sym (ap (option_map (λ (x : Score). x.stamp)) was))
+      (λ q other. ap (option_map (λ (x : Score). x.stamp)) (to.other q other))
+
+  pub one_more : w.hooks ≡ s.hooks + 1 → OneMore m (set m p w) s.id
+  one_more hooks =
+      let to = one_set m p s w apart is id in
+      record {
+        ids = λ r. set_ids m p s w r is id;
+        hooks = by_id (λ q. hooks_at (set m p w) q ≡ hooks_at m q + one_if (same_manifest q s.id)) s.id
+            (ap hooks_in to.here ∙ hooks ∙ ap (λ o. hooks_in o + 1) (sym was) ∙ ap (λ b. hooks_at m s.id + one_if b) (sym (same_manifest-self s.id)))
+            (λ q other. no_more (hooks_at (set m p w) q) (hooks_at m q) (ap hooks_in (to.other q other)) ∙ ap (λ b. hooks_at m q + one_if b) (sym other));
+        stamps = stamps_stay;
+      }
+
+  pub one_less : w.hooks ≡ s.hooks - 1 → OneLess m (set m p w) s.id
+  one_less hooks =
+      let to = one_set m p s w apart is id in
+      record {
+        ids = λ r. set_ids m p s w r is id;
+        hooks = by_id (λ q. hooks_at (set m p w) q ≡ hooks_at m q - one_if (same_manifest q s.id)) s.id
+            (ap hooks_in to.here ∙ hooks ∙ ap (λ o. hooks_in o - 1) (sym was) ∙ ap (λ b. hooks_at m s.id - one_if b) (sym (same_manifest-self s.id)))
+            (λ q other. no_less (hooks_at (set m p w) q) (hooks_at m q) (ap hooks_in (to.other q other)) ∙ ap (λ b. hooks_at m q - one_if b) (sym other));
+        stamps = stamps_stay;
+      }
+
+-- the one at a place of a manifest
+pub one_less_at : (m : Kept) (p : ℕ) (d w : Score) (k : ManifestId) → AreApart (id_at m) → id_at m p ≡ Some k → w.id ≡ (get_or m p d).id → w.stamp ≡ (get_or m p d).stamp → w.hooks ≡ (get_or m p d).hooks - 1 → OneLess m (set m p w) k
+one_less_at m p d w k apart at id stamp hooks =
+    subst (λ (q : ManifestId). OneLess m (set m p w) q) (id_here m p d k at)
+    (one_less m p (get_or m p d) w apart (get_here m p d (id_below m p k at)) id stamp hooks)
+
+-- what stands there, once it has a place and one hook more
+pub counted_at : (old mid : Kept) (places : Places) (p : ℕ) (d w : Score) (s : Standing) → ArePlaces places mid → HasPlace old mid s p
+    → w.id ≡ (get_or mid p d).id → w.stamp ≡ (get_or mid p d).stamp → w.hooks ≡ (get_or mid p d).hooks + 1 → HasAdded old (set mid p w) s p × ArePlaces places (set mid p w)
+counted_at old mid places p d w s are has id stamp hooks =
+    let to : OneMore mid (set mid p w) s.id =
+    subst (λ (q : ManifestId). OneMore mid (set mid p w) q) (id_here mid p d s.id has.here)
+    (one_more mid p (get_or mid p d) w (places_apart places mid are) (get_here mid p d (id_below mid p s.id has.here)) id stamp hooks) in (
+      record {
+        here = to.ids p ∙ has.here;
+        kept = λ k r at. to.ids r ∙ has.kept k r at;
+        hooks = λ q. to.hooks q ∙ ap (λ n. n + one_if (same_manifest q s.id)) (has.hooks q);
+        stamps = λ q t at. has.stamps q t (sym (to.stamps q) ∙ at);
+      },
+      record {
+        there = λ k r at. are.there k r (sym (to.ids r) ∙ at);
+        back = λ k r at. to.ids r ∙ are.back k r at;
+      },
+    )
 
 -- ---- a list that stands at a hook
 
@@ -122,8 +166,9 @@ module _ (stood : List Standing) (i : ℕ) (d : Standing) (once : StandsOnce sto
   apart_here q same =
       subst (λ (x : ManifestId). stands_in x (take i stood) ≡ false) (sym (same_manifest-true q (get_or stood i d).id same)) (fresh stood i d once below)
 
-  pub lowered_more : (old mid new : Kept) → HasLowered old mid (take i stood) → HasTaken mid new (get_or stood i d).id → HasLowered old new (take (i + 1) stood)
+  pub lowered_more : (old mid new : Kept) → HasLowered old mid (take i stood) → OneLess mid new (get_or stood i d).id → HasLowered old new (take (i + 1) stood)
   lowered_more old mid new so to = record {
+    ids = λ p. to.ids p ∙ so.ids p;
     hooks = λ q.
         to.hooks q ∙ ap (λ n. n - one_if (same_manifest q (get_or stood i d).id)) (so.hooks q)
         ∙ either_less (hooks_at old q) (stands_in q (take i stood)) (same_manifest q (get_or stood i d).id) (apart_here q)
@@ -136,32 +181,22 @@ module _ (stood : List Standing) (i : ℕ) (d : Standing) (once : StandsOnce sto
       either_more n (stands_in q (take i stood)) (same_manifest q (get_or stood i d).id) (apart_here q)
       ∙ ap (λ b. n + one_if b) (sym (stands_more q stood i d below))
 
-some_same : (t u : ℕ) → Some t ≡ Some u → t ≡ u
-some_same t u e = cc
-
 module _ (stood : List Standing) (i : ℕ) (d : Standing) (once : StandsOnce stood) (below : i < length stood) where
-  here_last : (q : ManifestId) (t : ℕ) → same_manifest q (get_or stood i d).id ≡ true → (get_or stood i d).stamp ≡ t → In (record { id = q; stamp = t }) (take (i + 1) stood)
-  here_last q t same is =
-      let s : Standing = get_or stood i d in
-      let x : Standing = record { id = q; stamp = t } in
-      let id : s.id ≡ q = sym (same_manifest-true q s.id same) in
-      let whole : s ≡ x = λ j. record { id = id j; stamp = is j } in
-      subst (λ (l : List Standing). In x l) (sym (take_more stood i d below)) (in_append_right x (take i stood) (s ∷ []) (inl whole))
+  here_last : (x : Standing) → x ≡ get_or stood i d → In x (take (i + 1) stood)
+  here_last x same = subst (λ (l : List Standing). In x l) (sym (take_more stood i d below)) (in_append_right x (take i stood) (get_or stood i d ∷ []) (inl (sym same)))
 
   still_there : (x : Standing) → In x (take i stood) → In x (take (i + 1) stood)
   still_there x there = subst (λ (l : List Standing). In x l) (sym (take_more stood i d below)) (in_append_left x (take i stood) (get_or stood i d ∷ []) there)
 
-  pub added_more : (old mid new : Kept) → HasAddedList old mid (take i stood) → HasAdded mid new (get_or stood i d) → HasAddedList old new (take (i + 1) stood)
-  added_more old mid new so to = record {
+  pub added_more : (old mid new : Kept) (p : ℕ) → HasAddedList old mid (take i stood) → HasAdded mid new (get_or stood i d) p → HasAddedList old new (take (i + 1) stood)
+  added_more old mid new p so to = record {
     hooks = λ q. to.hooks q ∙ ap (λ n. n + one_if (same_manifest q (get_or stood i d).id)) (so.hooks q) ∙ count_more stood i d once below (hooks_at old q) q;
-    stamps = λ q t is. elim (cases_Bool (same_manifest q (get_or stood i d).id)) [
-      | inl same ↦
-          let now : stamp_at new q ≡ Some (get_or stood i d).stamp = to.stamps q ∙ ap (λ b. cond b (Some (get_or stood i d).stamp) (stamp_at mid q)) same in
-          inr (here_last q t same (some_same (get_or stood i d).stamp t (sym now ∙ is)))
-      | inr apart ↦
-          let now : stamp_at new q ≡ stamp_at mid q = to.stamps q ∙ ap (λ b. cond b (Some (get_or stood i d).stamp) (stamp_at mid q)) apart in
-          elim (so.stamps q t (sym now ∙ is)) [ inl was ↦ inl was | inr there ↦ inr (still_there (record { id = q; stamp = t }) there) ]
-    ];
+    stamps = λ q t is.
+        let x : Standing = record { id = q; stamp = t } in
+        elim (to.stamps q t is) [
+          | inl was ↦ elim (so.stamps q t was) [ inl older ↦ inl older | inr there ↦ inr (still_there x there) ]
+          | inr last ↦ inr (here_last x last)
+        ];
   }
 
   -- the next one has not been counted
@@ -178,6 +213,7 @@ added_none m = record {
 
 pub lowered_none : (m : Kept) → HasLowered m m []
 lowered_none m = record {
+  ids = λ p. refl;
   hooks = λ q. no_less (hooks_at m q) (hooks_at m q) refl ∙ ap (λ b. hooks_at m q - one_if b) (sym (none_stands q));
   stamps = λ q. refl;
 }

@@ -13,7 +13,7 @@ use Rattle.ss_base.proofs.IdLaws.{same_manifest-self, same_manifest-true}
 use Rattle.ss_base.proofs.MemberLaws.{All-from_in, all_in}
 use Rattle.champion_choice.specs.Scores.{StandsOnce}
 use Rattle.champion_choice.specs.Lists.{StampsTell}
-use Rattle.champion_choice.proofs.ScoreLaws.{apart_back}
+use Rattle.champion_choice.proofs.PlaceLaws.{apart_back}
 use Rattle.champion_choice.proofs.ListLaws.{candidates_more}
 
 -- whether the manifest is the one of the session with the number of its stamp

@@ -6,7 +6,7 @@ use Rattle.ss_base.specs.declared.ids.Standing.{Standing}
 use Rattle.ss_base.specs.Ids.{same_manifest}
 use Rattle.ss_base.specs.Champions.{stands_in, hooks_covered, candidates}
 use Rattle.ss_base.proofs.MemberLaws.{In}
-use Rattle.champion_choice.specs.Scores.{Kept, hooks_at, stamp_at, one_if}
+use Rattle.champion_choice.specs.Scores.{Kept, hooks_at, stamp_at, one_if, id_at, AreApart, AreCells}
 
 -- the lists that these vectors hold
 abbrev pub standings : List (Vec Standing Global) → List (List Standing)
@@ -41,7 +41,16 @@ pub record HasAddedList (old new : Kept) (stood : List Standing) : Type 0 where
   pub hooks : (q : ManifestId) → hooks_at new q ≡ hooks_at old q + one_if (stands_in q stood)
   pub stamps : (q : ManifestId) (t : ℕ) → stamp_at new q ≡ Some t → (stamp_at old q ≡ Some t) ⊎ In (record { id = q; stamp = t }) stood
 
+-- the places so far, and behind them those of the list
+abbrev pub HasCells : Kept → List ℕ → Kept → List ℕ → List Standing → Type 0
+HasCells old were new cells stood = (before : List Standing) → AreCells (id_at old) were before → AreCells (id_at new) cells (before ++ stood)
+
 -- the scores are those of the lists
 pub record IsScored (scores : Kept) (lists : List (List Standing)) : Type 0 where
   pub hooks : (q : ManifestId) → hooks_at scores q ≡ hooks_covered lists q
   pub stamps : (q : ManifestId) (t : ℕ) → stamp_at scores q ≡ Some t → In (record { id = q; stamp = t }) (candidates lists)
+
+-- each score has a place of its own, and each that stands at some hook has the place of its score
+pub record ArePlaced (scores : Kept) (cells : List ℕ) (lists : List (List Standing)) : Type 0 where
+  pub apart : AreApart (id_at scores)
+  pub places : AreCells (id_at scores) cells (candidates lists)

@@ -1,5 +1,5 @@
 -- The scores of manifests: at how many hooks each stands, and its stamp (this project's own).
-use Rattle.std.specs.Prelude.{ℕ, ◌≡◌, ◌+◌, ◌-◌, ◌==◌, Bool, ◌&&◌, ◌||◌, nat_lt, nat_le, cond, List, [], ◌∷◌, Option, None, Some, if◌then◌else◌}
+use Rattle.std.specs.Prelude.{ℕ, ◌≡◌, ◌+◌, ◌-◌, ◌<◌, ◌==◌, Bool, true, ◌&&◌, ◌||◌, nat_lt, nat_le, cond, List, [], ◌∷◌, find, slice_get, Option, None, Some, ◌⊎◌, if◌then◌else◌}
 use Rattle.std.specs.List.{IsDistinct}
 use Rattle.std.specs.Option.{option_map}
 use Rattle.std.specs.HashMap as hash
@@ -13,10 +13,10 @@ use Rattle.champion_choice.specs.declared.score.Score.{Score}
 
 -- a score for each manifest that was counted
 abbrev pub Kept : Type 0
-Kept = hash.HashMap ManifestId Score (BuildHasherDefault FxHasher)
+Kept = List Score
 
 abbrev pub score_at : Kept → ManifestId → Option Score
-score_at m id = hash.get same_manifest m id
+score_at m id = find (λ score. same_manifest id score.id) m
 
 abbrev pub hooks_in : Option Score → ℕ
 hooks_in None = 0
@@ -34,18 +34,46 @@ stamp_at m id = option_map (λ score. score.stamp) (score_at m id)
 abbrev pub one_if : Bool → ℕ
 one_if test = cond test 1 0
 
--- what stands at one hook more
-pub record HasAdded (old new : Kept) (standing : Standing) : Type 0 where
-  pub hooks : (q : ManifestId) → hooks_at new q ≡ hooks_at old q + one_if (same_manifest q standing.id)
-  pub stamps : (q : ManifestId) → stamp_at new q ≡ (if same_manifest q standing.id then Some standing.stamp else stamp_at old q)
+-- the manifest whose score stands at the place
+abbrev pub id_at : Kept → ℕ → Option ManifestId
+id_at m place = option_map (λ score. score.id) (slice_get m place)
 
--- the manifest stands at one hook less
-pub record HasTaken (old new : Kept) (id : ManifestId) : Type 0 where
-  pub hooks : (q : ManifestId) → hooks_at new q ≡ hooks_at old q - one_if (same_manifest q id)
-  pub stamps : (q : ManifestId) → stamp_at new q ≡ stamp_at old q
+-- no manifest has two places
+abbrev pub AreApart : (ℕ → Option ManifestId) → Type 0
+AreApart ids = (p r : ℕ) (id : ManifestId) → ids p ≡ Some id → ids r ≡ Some id → p ≡ r
+
+-- the places are those of what stands there, one by one
+abbrev pub AreCells : (ℕ → Option ManifestId) → List ℕ → List Standing → Type 0
+AreCells ids [] [] = Unit
+AreCells ids [] (standing ∷ stood) = ⊥
+AreCells ids (place ∷ places) [] = ⊥
+AreCells ids (place ∷ places) (standing ∷ stood) = (ids place ≡ Some standing.id) × AreCells ids places stood
+
+-- the place of each score, by its manifest
+abbrev pub Places : Type 0
+Places = hash.HashMap ManifestId ℕ (BuildHasherDefault FxHasher)
+
+pub record ArePlaces (places : Places) (m : Kept) : Type 0 where
+  pub there : (id : ManifestId) (p : ℕ) → id_at m p ≡ Some id → hash.get same_manifest places id ≡ Some p
+  pub back : (id : ManifestId) (p : ℕ) → hash.get same_manifest places id ≡ Some p → id_at m p ≡ Some id
+
+-- what stands there has this place, and all else is as it was
+pub record HasPlace (old new : Kept) (standing : Standing) (place : ℕ) : Type 0 where
+  pub here : id_at new place ≡ Some standing.id
+  pub kept : (id : ManifestId) (p : ℕ) → id_at old p ≡ Some id → id_at new p ≡ Some id
+  pub hooks : (q : ManifestId) → hooks_at new q ≡ hooks_at old q
+  pub stamps : (q : ManifestId) (t : ℕ) → stamp_at new q ≡ Some t → (stamp_at old q ≡ Some t) ⊎ (record { id = q; stamp = t } ≡ standing)
+
+-- what stands there has this place, and stands at one hook more
+pub record HasAdded (old new : Kept) (standing : Standing) (place : ℕ) : Type 0 where
+  pub here : id_at new place ≡ Some standing.id
+  pub kept : (id : ManifestId) (p : ℕ) → id_at old p ≡ Some id → id_at new p ≡ Some id
+  pub hooks : (q : ManifestId) → hooks_at new q ≡ hooks_at old q + one_if (same_manifest q standing.id)
+  pub stamps : (q : ManifestId) (t : ℕ) → stamp_at new q ≡ Some t → (stamp_at old q ≡ Some t) ⊎ (record { id = q; stamp = t } ≡ standing)
 
 -- each manifest in the list stands at one hook less
 pub record HasLowered (old new : Kept) (stood : List Standing) : Type 0 where
+  pub ids : (p : ℕ) → id_at new p ≡ id_at old p
   pub hooks : (q : ManifestId) → hooks_at new q ≡ hooks_at old q - one_if (stands_in q stood)
   pub stamps : (q : ManifestId) → stamp_at new q ≡ stamp_at old q
 
@@ -57,12 +85,12 @@ StandsOnce stood = IsDistinct (λ (a b : Standing). same_manifest a.id b.id) sto
 abbrev pub is_ahead : Score → Score → Bool
 is_ahead a b = nat_lt b.hooks a.hooks || ((a.hooks == b.hooks) && nat_le b.stamp a.stamp)
 
--- the better of the best so far and one that stands at a hook
-abbrev pub better : Option (ManifestId × Score) → ManifestId × Score → Option (ManifestId × Score)
+-- the better of the best so far and one that stands at a hook, each with its place
+abbrev pub better : Option (ℕ × Score) → ℕ × Score → Option (ℕ × Score)
 better None scored = if scored.1.hooks == 0 then None else Some scored
 better (Some best) scored = if is_ahead scored.1 best.1 then Some scored else Some best
 
--- the best so far and of these
-abbrev pub best_from : Option (ManifestId × Score) → List (ManifestId × Score) → Option (ManifestId × Score)
-best_from best [] = best
-best_from best (scored ∷ rest) = best_from (better best scored) rest
+-- the best of what was seen, where something stands at a hook
+abbrev pub IsBestOf : (ℕ × Score → Type 0) → Option (ℕ × Score) → Type 0
+IsBestOf Seen None = (e : ℕ × Score) → Seen e → e.1.hooks ≡ 0
+IsBestOf Seen (Some b) = Seen b × (0 < b.1.hooks) × ((e : ℕ × Score) → Seen e → is_ahead b.1 e.1 ≡ true)

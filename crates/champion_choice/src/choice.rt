@@ -4,7 +4,7 @@ ghost use Rattle.ss_base.specs.Champions.{champions};
 ghost use Rattle.champion_choice.specs.Scores.{StandsOnce};
 ghost use Rattle.champion_choice.specs.Lists.{standings, StampsTell};
 
-use crate::covered::{lower_at, mark, scores_of};
+use crate::covered::{cover, scores_of};
 use crate::score::best;
 use arrayvec::ArrayVec;
 use ss_base::{ManifestId, Memory, Standing};
@@ -23,16 +23,21 @@ pub fn choose<const M: usize>(
     requires stamps { StampsTell (standings lists.now) }
     ensures { IfOk result (λ chosen. chosen.items ≡ champions M (standings lists.now)) }
 {
-    let mut scores = scores_of(alloc, lists)?;
+    let (mut scores, cells) = scores_of(alloc, lists)?;
     let mut covered = vec![in alloc; false; lists.len()]?;
     let mut chosen = ArrayVec::new();
     for _round in 0..M {
-        let Some((id, _)) = best(&scores) else {
+        let Some(champion) = best(scores.as_slice()) else {
             return Ok(chosen);
         };
-        chosen.push(id);
-        lower_at(&mut scores, lists, covered.as_slice(), id);
-        mark(covered.as_mut_slice(), lists, id);
+        chosen.push(champion.1.id);
+        cover(
+            scores.as_mut_slice(),
+            cells.as_slice(),
+            lists,
+            covered.as_mut_slice(),
+            champion,
+        );
     }
     Ok(chosen)
 }

@@ -1,10 +1,10 @@
 // Which hooks are covered.
-ghost use Rattle.std.specs.Prelude.{◌≡◌, ℕ, ◌-◌, ◌^◌, ◌<◌, ◌||◌, All, length, OnOk, IfOk};
+ghost use Rattle.std.specs.Prelude.{◌≡◌, ℕ, ◌-◌, ◌^◌, ◌<◌, ◌||◌, ◌==◌, All, length, Some, OnOk, IfOk};
+ghost use Rattle.std.specs.List.{list_any};
 ghost use Rattle.ss_base.specs.declared.ids.ManifestId.{ManifestId as Id};
-ghost use Rattle.ss_base.specs.Ids.{same_manifest};
 ghost use Rattle.ss_base.specs.Champions.{stands_in, hooks_covered};
-ghost use Rattle.champion_choice.specs.Scores.{hooks_at, stamp_at, StandsOnce};
-ghost use Rattle.champion_choice.specs.Lists.{standings, left, remaining, marked, covered_by, HasAddedList, IsScored};
+ghost use Rattle.champion_choice.specs.Scores.{hooks_at, stamp_at, id_at, AreApart, AreCells, ArePlaces, StandsOnce};
+ghost use Rattle.champion_choice.specs.Lists.{standings, left, remaining, marked, covered_by, HasAddedList, HasCells, IsScored, ArePlaced};
 
 use crate::score::{Score, add_one, lower};
 use fx_hash::FxMap;
@@ -13,110 +13,112 @@ use std::alloc::Global;
 use std::collections::HashMap;
 use std::hash::BuildHasherDefault;
 
-fn same_manifest(a: ManifestId, b: ManifestId) -> bool
-    ensures { result ≡ same_manifest a b }
+// Whether the place is among the cells.
+fn has_cell(cells: &[usize], place: usize) -> bool
+    ensures { result ≡ list_any (λ cell. cell == place) cells.now }
 {
-    a.session == b.session && a.seq == b.seq
+    cells.iter().any(|cell| *cell == place)
 }
 
-#[tactic(auto, unfolding(ss_base::specs::Champions::stands_in))]
-pub(crate) fn stands_in(id: ManifestId, stood: &[Standing]) -> bool
-    ensures { result ≡ stands_in id stood.now }
-{
-    stood.iter().any(|standing| same_manifest(id, standing.id))
-}
-
-// Counts one hook more for each manifest in its list.
-fn add_list(scores: &mut FxMap<ManifestId, Score>, stood: &[Standing]) -> Result<(), Memory>
+// Counts one hook more for each manifest in the list, and adds the places of their scores.
+fn add_list(
+    places: &mut FxMap<ManifestId, usize>,
+    scores: &mut Vec<Score>,
+    cells: &mut Vec<usize>,
+    stood: &[Standing],
+) -> Result<(), Memory>
+    requires places { ArePlaces places.old scores.old.items }
     requires once { StandsOnce stood.now }
-    requires room { (q : Id) → hooks_at scores.old q < 2 ^ 64 - 1 }
-    ensures { OnOk result (HasAddedList scores.old scores.new stood.now) }
+    requires room { (q : Id) → hooks_at scores.old.items q < 2 ^ 64 - 1 }
+    ensures places { OnOk result (ArePlaces places.new scores.new.items) }
+    ensures added { OnOk result (HasAddedList scores.old.items scores.new.items stood.now) }
+    ensures cells { OnOk result (HasCells scores.old.items cells.old.items scores.new.items cells.new.items stood.now) }
 {
     for standing in stood {
-        add_one(scores, *standing)?;
+        let place = add_one(places, scores, *standing)?;
+        cells.push(place)?;
     }
     Ok(())
 }
 
-// There are at most so many scores.
-fn most_scores(lists: &[Vec<Standing>]) -> usize {
-    let mut most = 0usize;
+// So many stand in the lists.
+fn count_of(lists: &[Vec<Standing>]) -> usize {
+    let mut count = 0usize;
     for stood in lists {
-        most = most.saturating_add(stood.len());
+        count = count.saturating_add(stood.len());
     }
-    most
+    count
 }
 
-// The scores by all of the lists.
+// The scores by all of the lists, and the place of the score of each that stands in them, list by list.
 pub(crate) fn scores_of(
     alloc: Global,
     lists: &[Vec<Standing>],
-) -> Result<FxMap<ManifestId, Score>, Memory>
+) -> Result<(Vec<Score>, Vec<usize>), Memory>
     requires { All StandsOnce (standings lists.now) }
-    ensures { IfOk result (λ scores. IsScored scores (standings lists.now)) }
+    ensures scored { IfOk result (λ made. IsScored made.0.items (standings lists.now)) }
+    ensures placed { IfOk result (λ made. ArePlaced made.0.items made.1.items (standings lists.now)) }
 {
-    let mut scores = HashMap::with_capacity_and_hasher(
-        alloc,
-        most_scores(lists),
-        BuildHasherDefault::new(),
-    )?;
+    let count = count_of(lists);
+    let mut places = HashMap::with_capacity_and_hasher(alloc, count, BuildHasherDefault::new())?;
+    let mut scores = Vec::with_capacity(alloc, count)?;
+    let mut cells = Vec::with_capacity(alloc, count)?;
     for stood in lists {
-        add_list(&mut scores, stood.as_slice())?;
+        add_list(&mut places, &mut scores, &mut cells, stood.as_slice())?;
     }
-    Ok(scores)
+    Ok((scores, cells))
 }
 
-// Lowers the scores of what stands at one hook, where it is uncovered and the manifest stands there.
-fn lower_hook(
-    scores: &mut FxMap<ManifestId, Score>,
+// Whether the hook is covered, or the champion stands there; then it lowers the scores of what stands there, where it
+// was uncovered. The champion comes with the place of its score.
+fn cover_hook(
+    scores: &mut [Score],
     stood: &[Standing],
+    cells: &[usize],
     covered: bool,
-    id: ManifestId,
-)
-    requires { StandsOnce stood.now }
-    ensures hooks { (q : Id) → hooks_at scores.new q ≡ hooks_at scores.old q - hooks_covered (covered_by id (left covered stood.now)) q }
+    champion: (usize, Score),
+) -> bool
+    requires apart { AreApart (id_at scores.old) }
+    requires champion { id_at scores.old champion.0 ≡ Some champion.1.id }
+    requires cells { AreCells (id_at scores.old) cells.now stood.now }
+    requires once { StandsOnce stood.now }
+    ensures covered { result ≡ (covered || stands_in champion.1.id stood.now) }
+    ensures ids { (p : ℕ) → id_at scores.new p ≡ id_at scores.old p }
+    ensures hooks { (q : Id) → hooks_at scores.new q ≡ hooks_at scores.old q - hooks_covered (covered_by champion.1.id (left covered stood.now)) q }
     ensures stamps { (q : Id) → stamp_at scores.new q ≡ stamp_at scores.old q }
 {
     if covered {
-        return;
+        return true;
     }
-    if !stands_in(id, stood) {
-        return;
+    if !has_cell(cells, champion.0) {
+        return false;
     }
-    lower(scores, stood);
+    lower(scores, stood, cells);
+    true
 }
 
-// Lowers the scores of what stands at the uncovered hooks at which the manifest stands.
-pub(crate) fn lower_at(
-    scores: &mut FxMap<ManifestId, Score>,
+// Covers the hooks at which the champion stands, and lowers the scores of what stands at those that were uncovered.
+pub(crate) fn cover(
+    scores: &mut [Score],
+    cells: &[usize],
     lists: &[Vec<Standing>],
-    covered: &[bool],
-    id: ManifestId,
+    covered: &mut [bool],
+    champion: (usize, Score),
 )
     requires once { All StandsOnce (standings lists.now) }
-    requires fits { length covered.now ≡ length lists.now }
-    ensures hooks { (q : Id) → hooks_at scores.new q ≡ hooks_at scores.old q - hooks_covered (covered_by id (remaining covered.now (standings lists.now))) q }
+    requires fits { length covered.old ≡ length lists.now }
+    requires champion { id_at scores.old champion.0 ≡ Some champion.1.id }
+    requires placed { ArePlaced scores.old cells.now (standings lists.now) }
+    ensures covered { covered.new ≡ marked champion.1.id (standings lists.now) covered.old }
+    ensures ids { (p : ℕ) → id_at scores.new p ≡ id_at scores.old p }
+    ensures hooks { (q : Id) → hooks_at scores.new q ≡ hooks_at scores.old q - hooks_covered (covered_by champion.1.id (remaining covered.old (standings lists.now))) q }
     ensures stamps { (q : Id) → stamp_at scores.new q ≡ stamp_at scores.old q }
 {
+    let mut rest = cells;
     for (i, stood) in lists.iter().enumerate() {
-        lower_hook(scores, stood.as_slice(), covered[i], id);
-    }
-}
-
-// Whether the hook is covered, or the manifest stands there.
-fn is_covered(covered: bool, id: ManifestId, stood: &[Standing]) -> bool
-    ensures { result ≡ (covered || stands_in id stood.now) }
-{
-    covered || stands_in(id, stood)
-}
-
-// Marks the hooks at which the manifest stands as covered.
-pub(crate) fn mark(covered: &mut [bool], lists: &[Vec<Standing>], id: ManifestId)
-    requires { length covered.old ≡ length lists.now }
-    ensures { covered.new ≡ marked id (standings lists.now) covered.old }
-{
-    for (i, stood) in lists.iter().enumerate() {
-        let now = is_covered(covered[i], id, stood.as_slice());
+        let (own, behind) = rest.split_at(stood.len());
+        rest = behind;
+        let now = cover_hook(scores, stood.as_slice(), own, covered[i], champion);
         covered[i] = now;
     }
 }

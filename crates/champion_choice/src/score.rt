@@ -1,58 +1,67 @@
 // At how many uncovered hooks each manifest stands.
-ghost use Rattle.std.specs.Prelude.{◌≡◌, ◌-◌, ◌^◌, ◌<◌, OnOk, IfSome};
-ghost use Rattle.champion_choice.specs.Scores.{score_at, hooks_at, HasAdded, HasTaken, HasLowered, StandsOnce, is_ahead, better, best_from};
+ghost use Rattle.std.specs.Prelude.{◌≡◌, ℕ, ◌-◌, ◌^◌, ◌<◌, slice_get, Some, OnOk, IfOk};
+ghost use Rattle.champion_choice.specs.Scores.{hooks_at, id_at, AreApart, AreCells, ArePlaces, HasPlace, HasAdded, HasLowered, StandsOnce, is_ahead, better, IsBestOf};
 
 use fx_hash::FxMap;
 use ss_base::{ManifestId, Memory, Standing};
 
-// The stamp of a manifest, and at how many hooks it stands.
+// A manifest, its stamp, and at how many hooks it stands.
 #[derive(Clone, Copy)]
 pub(crate) struct Score {
+    pub(crate) id: ManifestId,
     pub(crate) stamp: u32,
     pub(crate) hooks: usize,
 }
 
-// Counts one hook more for what stands there.
-pub(crate) fn add_one(
-    scores: &mut FxMap<ManifestId, Score>,
+// The place of the manifest's score, which is made where it has none.
+fn place_of(
+    places: &mut FxMap<ManifestId, usize>,
+    scores: &mut Vec<Score>,
     standing: Standing,
-) -> Result<(), Memory>
-    requires { hooks_at scores.old standing.id < 2 ^ 64 - 1 }
-    ensures { OnOk result (HasAdded scores.old scores.new standing) }
+) -> Result<usize, Memory>
+    requires { ArePlaces places.old scores.old.items }
+    ensures places { OnOk result (ArePlaces places.new scores.new.items) }
+    ensures place { IfOk result (λ place. HasPlace scores.old.items scores.new.items standing place) }
 {
-    let hooks = match scores.get(&standing.id) {
-        Some(score) => score.hooks,
-        None => 0,
-    };
-    scores.insert(
-        standing.id,
-        Score {
-            stamp: standing.stamp,
-            hooks: hooks + 1,
-        },
-    )?;
-    Ok(())
-}
-
-// Takes one hook away from the manifest, if it has one.
-pub(crate) fn take_one(scores: &mut FxMap<ManifestId, Score>, id: ManifestId)
-    ensures { HasTaken scores.old scores.new id }
-{
-    if let Some(score) = scores.get_mut(&id) {
-        *score = Score {
-            stamp: score.stamp,
-            hooks: score.hooks.saturating_sub(1),
-        };
+    if let Some(place) = places.get(&standing.id) {
+        return Ok(*place);
     }
+    let place = scores.len();
+    scores.push(Score {
+        id: standing.id,
+        stamp: standing.stamp,
+        hooks: 0,
+    })?;
+    places.insert(standing.id, place)?;
+    Ok(place)
 }
 
-// Takes one hook away from each manifest that stands in the list.
-pub(crate) fn lower(scores: &mut FxMap<ManifestId, Score>, stood: &[Standing])
-    requires { StandsOnce stood.now }
+// Counts one hook more for what stands there, and tells the place of its score.
+pub(crate) fn add_one(
+    places: &mut FxMap<ManifestId, usize>,
+    scores: &mut Vec<Score>,
+    standing: Standing,
+) -> Result<usize, Memory>
+    requires places { ArePlaces places.old scores.old.items }
+    requires room { hooks_at scores.old.items standing.id < 2 ^ 64 - 1 }
+    ensures places { OnOk result (ArePlaces places.new scores.new.items) }
+    ensures added { IfOk result (λ place. HasAdded scores.old.items scores.new.items standing place) }
+{
+    let place = place_of(places, scores, standing)?;
+    scores[place].hooks += 1;
+    Ok(place)
+}
+
+// Takes one hook away from each manifest that stands in the list, whose scores stand at these places.
+pub(crate) fn lower(scores: &mut [Score], stood: &[Standing], cells: &[usize])
+    requires apart { AreApart (id_at scores.old) }
+    requires cells { AreCells (id_at scores.old) cells.now stood.now }
+    requires once { StandsOnce stood.now }
     ensures { HasLowered scores.old scores.new stood.now }
 {
-    for standing in stood {
-        take_one(scores, standing.id);
+    for i in 0..stood.len() {
+        let score = &mut scores[cells[i]];
+        score.hooks = score.hooks.saturating_sub(1);
     }
 }
 
@@ -64,24 +73,20 @@ fn is_ahead(a: Score, b: Score) -> bool
 }
 
 // The better of the best so far and one that stands at a hook.
-fn better(
-    best: Option<(ManifestId, Score)>,
-    id: ManifestId,
-    score: Score,
-) -> Option<(ManifestId, Score)>
-    ensures { result ≡ better best (id, score) }
+fn better(best: Option<(usize, Score)>, place: usize, score: Score) -> Option<(usize, Score)>
+    ensures { result ≡ better best (place, score) }
 {
     match best {
         None => {
             if score.hooks == 0 {
                 None
             } else {
-                Some((id, score))
+                Some((place, score))
             }
         }
         Some((first, other)) => {
             if is_ahead(score, other) {
-                Some((id, score))
+                Some((place, score))
             } else {
                 Some((first, other))
             }
@@ -89,14 +94,13 @@ fn better(
     }
 }
 
-// The manifest with the best score, if one stands at an uncovered hook.
-pub(crate) fn best(scores: &FxMap<ManifestId, Score>) -> Option<(ManifestId, Score)>
-    ensures best { result ≡ best_from None scores.now.entries }
-    ensures found { IfSome result (λ scored. score_at scores.now scored.0 ≡ Some scored.1) }
+// The best score and its place, if one stands at an uncovered hook.
+pub(crate) fn best(scores: &[Score]) -> Option<(usize, Score)>
+    ensures { IsBestOf (λ scored. slice_get scores.now scored.0 ≡ Some scored.1) result }
 {
     let mut best = None;
-    for (id, score) in scores {
-        best = better(best, *id, *score);
+    for (place, score) in scores.iter().enumerate() {
+        best = better(best, place, *score);
     }
     best
 }

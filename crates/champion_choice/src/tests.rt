@@ -2,11 +2,12 @@ ghost use Rattle.std.specs.Prelude.{◌≡◌, ◌==◌, ◌&&◌, All};
 ghost use Rattle.std.specs.Bool.{OnTrue};
 ghost use Rattle.std.specs.List.{list_all};
 ghost use Rattle.ss_base.specs.declared.ids.Standing.{Standing as Stands};
+ghost use Rattle.ss_base.specs.Ids.{same_manifest};
+ghost use Rattle.ss_base.specs.Champions.{stands_in};
 ghost use Rattle.champion_choice.specs.Scores.{StandsOnce};
 ghost use Rattle.champion_choice.specs.Lists.{standings, StampsTell};
 
 use crate::choose;
-use crate::covered::stands_in;
 use ss_base::{ManifestId, Standing};
 use std::alloc::{AllocError, Global};
 use std::test::Fail;
@@ -41,6 +42,19 @@ fn have_own_stamps(stood: &[Standing]) -> bool
     ensures { result ≡ list_all (λ (s : Stands). (s.id.session == s.stamp) && (s.id.seq == 0)) stood.now }
 {
     stood.iter().all(has_own_stamp)
+}
+
+fn same_manifest(a: ManifestId, b: ManifestId) -> bool
+    ensures { result ≡ same_manifest a b }
+{
+    a.session == b.session && a.seq == b.seq
+}
+
+#[tactic(auto, unfolding(ss_base::specs::Champions::stands_in))]
+fn stands_in(id: ManifestId, stood: &[Standing]) -> bool
+    ensures { result ≡ stands_in id stood.now }
+{
+    stood.iter().any(|standing| same_manifest(id, standing.id))
 }
 
 fn stands_once(stood: &[Standing]) -> bool

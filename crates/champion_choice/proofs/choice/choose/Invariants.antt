@@ -3,7 +3,7 @@ use Rattle.ss_base.specs.declared.ids.ManifestId.{ManifestId}
 use Rattle.ss_base.specs.Champions.{hooks_covered, candidates, champions}
 use Rattle.ss_base.proofs.MemberLaws.{In}
 use Rattle.champion_choice.specs.Scores.{hooks_at, stamp_at}
-use Rattle.champion_choice.specs.Lists.{standings, remaining}
+use Rattle.champion_choice.specs.Lists.{standings, remaining, ArePlaced}
 use Rattle.champion_choice.proofs.choice.choose.Given as goal
 
 abbrev pub invariant-loop-round : goal.invariant-loop-round
@@ -11,6 +11,7 @@ invariant-loop-round g l = record {
   count : length l.chosen.items ≡ l._round;
   fits : length l.covered.items ≡ length l.lists;
   chosen : l.chosen.items ++ champions (g.row.M - l._round) (remaining l.covered.items (standings l.lists)) ≡ champions g.row.M (standings l.lists);
-  hooks : (q : ManifestId) → hooks_at l.scores q ≡ hooks_covered (remaining l.covered.items (standings l.lists)) q;
-  stamps : (q : ManifestId) (t : ℕ) → stamp_at l.scores q ≡ Some t → In (record { id = q; stamp = t }) (candidates (standings l.lists));
+  hooks : (q : ManifestId) → hooks_at l.scores.items q ≡ hooks_covered (remaining l.covered.items (standings l.lists)) q;
+  stamps : (q : ManifestId) (t : ℕ) → stamp_at l.scores.items q ≡ Some t → In (record { id = q; stamp = t }) (candidates (standings l.lists));
+  placed : ArePlaced l.scores.items l.cells.items (standings l.lists);
 }

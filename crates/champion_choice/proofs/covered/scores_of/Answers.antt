@@ -1,13 +1,19 @@
-use Rattle.std.proofs.Common.{◌<◌, length, List, sym, subst, arith}
+use Rattle.std.proofs.Common.{◌<◌, take, length, List, sym, subst, arith}
 use Rattle.std.proofs.lemmas.List.{length-map}
 use Rattle.ss_base.specs.declared.ids.Standing.{Standing}
-use Rattle.champion_choice.specs.Scores.{StandsOnce}
-use Rattle.champion_choice.specs.Lists.{standings, HasAddedList}
-use Rattle.champion_choice.proofs.ListLaws.{scored_none, scored_more, count_bound, item_at}
+use Rattle.ss_base.specs.Champions.{candidates}
+use Rattle.champion_choice.specs.Scores.{id_at, AreCells, StandsOnce}
+use Rattle.champion_choice.specs.Lists.{standings, HasAddedList, HasCells}
+use Rattle.champion_choice.proofs.PlaceLaws.{places_none, cells_start, placed_all}
+use Rattle.champion_choice.proofs.ListLaws.{scored_none, scored_more, candidates_more, count_bound, item_at}
 use Rattle.champion_choice.proofs.covered.scores_of.Goals as goal
 
 pub loop-stood-init : goal.loop-stood-init
-loop-stood-init c = scored_none c.in_ok-scores.scores c.in_ok-scores.ensures.empty
+loop-stood-init c = record {
+  places = places_none c.in_ok-places.places c.in_ok-scores.scores.items c.in_ok-places.ensures.empty c.in_ok-scores.ensures.items;
+  scored = scored_none c.in_ok-scores.scores.items c.in_ok-scores.ensures.items;
+  cells = cells_start (id_at c.in_ok-scores.scores.items) c.in_ok-cells.cells.items c.in_ok-cells.ensures.items;
+}
 
 pub add_list-requires-clause-once : goal.add_list-requires-clause-once
 add_list-requires-clause-once c =
@@ -20,14 +26,28 @@ add_list-requires-clause-room c q =
     let long = length-map c.args.lists.now (λ v. v.items) in
     let below = c.loop-stood-test.true in
     let few = count_bound (standings c.args.lists.now) c.loop-stood.stood-index q (omega (arith, long, below)) in
-    let so = c.loop-stood.invariant.hooks q in
+    let so = c.loop-stood.invariant.scored.hooks q in
     omega (arith, so, few, below)
 
 pub loop-stood-preserved : goal.loop-stood-preserved
 loop-stood-preserved c =
+    let all = standings c.args.lists.now in
     let i = c.loop-stood.stood-index in
     let d = c.stood-item.result.items in
+    let m = c.loop-stood.scores.items in
+    let n = c.add_list.new.scores.items in
     let same = item_at c.args.lists.now i c.stood-item.result c.as_slice.result.now c.as_slice.ensures.value c.stood-item.is in
-    let below : i < length (standings c.args.lists.now) = omega (arith, length-map c.args.lists.now (λ v. v.items)) in
-    scored_more (standings c.args.lists.now) i d c.loop-stood.scores c.add_list.new.scores below c.loop-stood.invariant
-    (subst (λ (stood : List Standing). HasAddedList c.loop-stood.scores c.add_list.new.scores stood) same c.in_ok-add_list.ensures)
+    let below : i < length all = omega (arith, length-map c.args.lists.now (λ v. v.items)) in
+    record {
+      places = c.in_ok-add_list.ensures.places;
+      scored = scored_more all i d m n below c.loop-stood.invariant.scored (subst (λ (stood : List Standing). HasAddedList m n stood) same c.in_ok-add_list.ensures.added);
+      cells =
+          subst (λ (l : List Standing). AreCells (id_at n) c.add_list.new.cells.items l) (sym (candidates_more all i d below))
+          (subst (λ (stood : List Standing). HasCells m c.loop-stood.cells.items n c.add_list.new.cells.items stood) same c.in_ok-add_list.ensures.cells (candidates (take i all)) c.loop-stood.invariant.cells);
+    }
+
+pub returns-clause-placed : goal.returns-clause-placed
+returns-clause-placed c =
+    let long = length-map c.args.lists.now (λ v. v.items) in
+    placed_all (standings c.args.lists.now) c.loop-stood.stood-index c.loop-stood.places c.loop-stood.scores.items c.loop-stood.cells.items (let over = c.loop-stood-test.false in omega (arith, long, over))
+    c.loop-stood.invariant.places c.loop-stood.invariant.cells

@@ -1,6 +1,6 @@
-use Rattle.std.proofs.Common.{◌≡◌, None}
-use Rattle.champion_choice.specs.Scores.{best_from}
+use Rattle.std.proofs.Common.{◌≡◌, ◌<◌, slice_get, Some}
+use Rattle.champion_choice.specs.Scores.{IsBestOf}
 use Rattle.champion_choice.proofs.score.best.Given as goal
 
-abbrev pub invariant-loop-id : goal.invariant-loop-id
-invariant-loop-id l = best_from l.best l.id-iterator ≡ best_from None l.scores.entries
+abbrev pub invariant-loop-place : goal.invariant-loop-place
+invariant-loop-place l = IsBestOf (λ e. (e.0 < l.place) × (slice_get l.scores e.0 ≡ Some e.1)) l.best
