@@ -1,9 +1,9 @@
 -- Scores by their places, and places by ids.
-use Rattle.std.proofs.Common.{◌≡◌, ◌⊎◌, ℕ, zero, suc, ◌+◌, ◌<◌, ◌≤◌, Bool, true, false, eqb, eqb-true, cond, ◌||◌, List, [], ◌∷◌, ◌++◌, length, take, drop, get_or, set, slice_get, Option, Some, None, refl, sym, ap, ◌∙◌, subst, inl, inr, arith}
+use Rattle.std.proofs.Common.{◌≡◌, ◌⊎◌, ℕ, zero, suc, ◌+◌, ◌<◌, ◌≤◌, Bool, true, false, eqb, eqb-true, cond, ◌||◌, List, [], ◌∷◌, ◌++◌, length, take, drop, get_or, set, slice_get, Option, Some, None, IfSome, IfNone, refl, sym, ap, ◌∙◌, subst, inl, inr, arith}
 use Rattle.std.specs.Map.{lookup}
 use Rattle.std.specs.Option.{option_map}
 use Rattle.std.specs.HashMap as hash
-use Rattle.std.proofs.lemmas.Bool.{both_ways, false_from_ne_true, cases_Bool, eq-eqb}
+use Rattle.std.proofs.lemmas.Bool.{both_ways, false_from_ne_true, cases_Bool, eq-eqb, eqb-false}
 use Rattle.std.specs.List.{list_any}
 use Rattle.std.proofs.lemmas.List.{take_more, take_all, append-nil, append_assoc}
 use Rattle.ss_base.specs.declared.ids.ManifestId.{ManifestId}
@@ -13,7 +13,7 @@ use Rattle.ss_base.specs.Ids.{same_manifest}
 use Rattle.ss_base.specs.Champions.{stands_in, candidates}
 use Rattle.ss_base.proofs.IdLaws.{same_manifest-self, same_manifest-true}
 use Rattle.champion_choice.specs.declared.score.Score.{Score}
-use Rattle.champion_choice.specs.Scores.{Kept, score_at, hooks_in, hooks_at, stamp_at, id_at, AreApart, AreCells, Places, ArePlaces, HasPlace, HasAdded}
+use Rattle.champion_choice.specs.Scores.{Kept, score_at, hooks_in, hooks_at, stamp_at, id_at, AreApart, AreCells, HasNoPlace, HasNoPlaceBelow, PlaceMap, AreMapped, ArePlaces, HasPlace, HasAdded}
 use Rattle.champion_choice.specs.Lists.{HasCells, ArePlaced}
 
 -- the test that the derive gives
@@ -62,8 +62,17 @@ apart_tail x xs apart p r id a b = let same = apart (suc p) (suc r) id a b in om
 pub apart_same : (f g : ℕ → Option ManifestId) → ((p : ℕ) → g p ≡ f p) → AreApart f → AreApart g
 apart_same f g same apart p r id a b = apart p r id (sym (same p) ∙ a) (sym (same r) ∙ b)
 
-pub places_apart : (places : Places) (m : Kept) → ArePlaces places m → AreApart (id_at m)
-places_apart places m are p r id a b = some_place p r (sym (are.there id p a) ∙ are.there id r b)
+pub places_apart : (places : Option PlaceMap) (m : Kept) → ArePlaces places m → AreApart (id_at m)
+places_apart None m are = are
+places_apart (Some map) m are = λ p r id a b. some_place p r (sym (are.there id p a) ∙ are.there id r b)
+
+-- the scores change, and the ids stay
+pub places_same : (places : Option PlaceMap) (m n : Kept) → ((p : ℕ) → id_at n p ≡ id_at m p) → ArePlaces places m → ArePlaces places n
+places_same None m n same are = apart_same (id_at m) (id_at n) same are
+places_same (Some map) m n same are = record {
+  there = λ k p at. are.there k p (sym (same p) ∙ at);
+  back = λ k p at. same p ∙ are.back k p at;
+}
 
 -- a place tells the score of its manifest
 pub score_of : (m : Kept) (p : ℕ) (s : Score) → AreApart (id_at m) → slice_get m p ≡ Some s → score_at m s.id ≡ Some s
@@ -157,15 +166,16 @@ stamp_end (x ∷ xs) w q t is = by (same_manifest q x.id) (stamp_end xs w q t) i
     by false later is = later is
 
 -- what has a score already
-pub has_old : (places : Places) (m : Kept) (s : Standing) (p : ℕ) → ArePlaces places m → hash.get same_manifest places s.id ≡ Some p → HasPlace m m s p
-has_old places m s p are is = record {
-  here = are.back s.id p is;
+pub has_old : (m : Kept) (s : Standing) (p : ℕ) → id_at m p ≡ Some s.id → HasPlace m m s p
+has_old m s p is = record {
+  here = is;
   kept = λ k r at. at;
   hooks = λ q. refl;
   stamps = λ q t at. inl at;
 }
 
-module _ (places more : Places) (m : Kept) (s : Standing) (w : Score) (id : w.id ≡ s.id) where
+-- what has none yet
+module _ (m : Kept) (s : Standing) (w : Score) (id : w.id ≡ s.id) where
   has_new : w.stamp ≡ s.stamp → w.hooks ≡ 0 → HasPlace m (m ++ w ∷ []) s (length m)
   has_new stamp zero_is = record {
     here = id_last m w ∙ ap Some id;
@@ -180,13 +190,23 @@ module _ (places more : Places) (m : Kept) (s : Standing) (w : Score) (id : w.id
     ];
   }
 
-  places_new : ArePlaces places m → hash.get same_manifest places s.id ≡ None → hash.UpdatesBy derived (derived s.id) places more (Some (length m)) → ArePlaces more (m ++ w ∷ [])
-  places_new are none updates =
-      let u : hash.UpdatesBy same_manifest (same_manifest s.id) places more (Some (length m)) = updates in
+  -- it is not an older one
+  not_old : (k : ManifestId) (p : ℕ) → HasNoPlace m s.id → id_at m p ≡ Some k → w.id ≡ k → ⊥
+  not_old k p none old last = none p (old ∙ ap Some (sym last ∙ id))
+
+  apart_new : AreApart (id_at m) → HasNoPlace m s.id → AreApart (id_at (m ++ w ∷ []))
+  apart_new apart none p r k a b = elim (id_cases m w p k a) [
+    | inl first ↦ elim (id_cases m w r k b) [ inl second ↦ apart p r k first second | inr last ↦ absurd (not_old k p none first last.1) ]
+    | inr last ↦ elim (id_cases m w r k b) [ inl second ↦ absurd (not_old k r none second last.1) | inr also ↦ last.0 ∙ sym also.0 ]
+  ]
+
+  mapped_new : (map more : PlaceMap) → AreMapped map m → HasNoPlace m s.id → hash.UpdatesBy derived (derived s.id) map more (Some (length m)) → AreMapped more (m ++ w ∷ [])
+  mapped_new map more are none updates =
+      let u : hash.UpdatesBy same_manifest (same_manifest s.id) map more (Some (length m)) = updates in
       record {
         there = λ k p at. elim (id_cases m w p k at) [
           | inl old ↦ elim (cases_Bool (same_manifest s.id k)) [
-            | inl same ↦ absurd (no_place p (sym none ∙ ap (λ q. hash.get same_manifest places q) (same_manifest-true s.id k same) ∙ are.there k p old))
+            | inl same ↦ absurd (none p (old ∙ ap Some (sym (same_manifest-true s.id k same))))
             | inr other ↦ u.2 k other ∙ are.there k p old
           ]
           | inr last ↦ ap (λ q. hash.get same_manifest more q) (sym last.1 ∙ id) ∙ u.1 ∙ ap Some (sym last.0)
@@ -200,25 +220,52 @@ module _ (places more : Places) (m : Kept) (s : Standing) (w : Score) (id : w.id
         ];
       }
 
-  -- by the place that was told
-  pub places_told : (p : ℕ) (new : Kept) → ArePlaces places m → hash.get same_manifest places s.id ≡ None → p ≡ length m → new ≡ m ++ w ∷ []
-      → hash.UpdatesBy derived (derived s.id) places more (Some p) → ArePlaces more new
-  places_told p new are none place is updates =
-      subst (λ (l : Kept). ArePlaces more l) (sym is)
-      (places_new are none (subst (λ (r : ℕ). hash.UpdatesBy derived (derived s.id) places more (Some r)) place updates))
+  -- as they were told
+  pub searched_told : (new : Kept) → AreApart (id_at m) → HasNoPlace m s.id → new ≡ m ++ w ∷ [] → AreApart (id_at new)
+  searched_told new apart none is = subst (λ (l : Kept). AreApart (id_at l)) (sym is) (apart_new apart none)
+
+  pub mapped_told : (map more : PlaceMap) (p : ℕ) (new : Kept) → AreMapped map m → HasNoPlace m s.id → p ≡ length m → new ≡ m ++ w ∷ []
+      → hash.UpdatesBy derived (derived s.id) map more (Some p) → AreMapped more new
+  mapped_told map more p new are none place is updates =
+      subst (λ (l : Kept). AreMapped more l) (sym is)
+      (mapped_new map more are none (subst (λ (r : ℕ). hash.UpdatesBy derived (derived s.id) map more (Some r)) place updates))
 
   pub place_told : (p : ℕ) (new : Kept) → w.stamp ≡ s.stamp → w.hooks ≡ 0 → p ≡ length m → new ≡ m ++ w ∷ [] → HasPlace m new s p
   place_told p new stamp zero_is place is =
       subst (λ (l : Kept). HasPlace m l s p) (sym is) (subst (λ (r : ℕ). HasPlace m (m ++ w ∷ []) s r) (sym place) (has_new stamp zero_is))
 
-pub places_none : (places : Places) (m : Kept) → places.entries ≡ [] → m ≡ [] → ArePlaces places m
-places_none places m none empty = record {
-  there = λ k p at. absurd (no_id k (sym at ∙ ap (λ l. id_at l p) empty));
+no_id : (k : ManifestId) → Some k ≡ None → ⊥
+no_id k e = cc
+
+pub apart_none : AreApart (id_at [])
+apart_none p r k a b = absurd (no_id k (sym a))
+
+pub mapped_none : (map : PlaceMap) → map.entries ≡ [] → AreMapped map []
+mapped_none map none = record {
+  there = λ k p at. absurd (no_id k (sym at));
   back = λ k p at. absurd (no_place p (sym (ap (λ es. lookup (same_manifest k) es) none) ∙ at));
 }
-  where
-    no_id : (k : ManifestId) → Some k ≡ None → ⊥
-    no_id k e = cc
+
+-- what the map tells
+pub found_is : (map : PlaceMap) (m : Kept) (id : ManifestId) (found : Option ℕ) → AreMapped map m → found ≡ hash.get same_manifest map id
+    → IfSome found (λ place. id_at m place ≡ Some id) × IfNone found (HasNoPlace m id)
+found_is map m id None are is = (tt, (λ p at. no_place p (is ∙ are.there id p at)))
+found_is map m id (Some p) are is = (are.back id p (sym is), tt)
+
+-- every place has been searched
+pub searched_none : (m : Kept) (id : ManifestId) → HasNoPlaceBelow m id 0
+searched_none m id p below at = absurd (omega arith)
+
+pub searched_more : (m : Kept) (id : ManifestId) (i : ℕ) (d : Score) → i < length m → HasNoPlaceBelow m id i → same_manifest id (get_or m i d).id ≡ false → HasNoPlaceBelow m id (i + 1)
+searched_more m id i d below so apart p low at = elim (cases_Bool (eqb p i)) [
+  | inl here ↦
+      let same : (get_or m i d).id ≡ id = id_here m i d id (ap (id_at m) (sym (eqb-true p i here)) ∙ at) in
+      both_ways (same_manifest id (get_or m i d).id) apart (subst (λ (k : ManifestId). same_manifest id k ≡ true) (sym same) (same_manifest-self id))
+  | inr elsewhere ↦ so p (let ne = eqb-false p i elsewhere in omega (arith, low, ne)) at
+]
+
+pub searched_all : (m : Kept) (id : ManifestId) (i : ℕ) → length m ≤ i → HasNoPlaceBelow m id i → HasNoPlace m id
+searched_all m id i over so p at = so p (let low = id_below m p id at in omega (arith, low, over)) at
 
 -- ---- the places of lists
 
@@ -299,12 +346,12 @@ unfolding candidates
 cells_start f cells empty = subst (λ (cs : List ℕ). AreCells f cs []) (sym empty) tt
 
 -- the score at a manifest's place tells its hooks
-pub hooks_here : (places : Places) (m : Kept) (p : ℕ) (d : Score) (k : ManifestId) → ArePlaces places m → id_at m p ≡ Some k → hooks_at m k ≡ (get_or m p d).hooks
+pub hooks_here : (places : Option PlaceMap) (m : Kept) (p : ℕ) (d : Score) (k : ManifestId) → ArePlaces places m → id_at m p ≡ Some k → hooks_at m k ≡ (get_or m p d).hooks
 hooks_here places m p d k are at =
     subst (λ (q : ManifestId). hooks_at m q ≡ (get_or m p d).hooks) (id_here m p d k at)
     (ap hooks_in (score_of m p (get_or m p d) (places_apart places m are) (get_here m p d (id_below m p k at))))
 
-pub placed_all : (all : List (List Standing)) (i : ℕ) (places : Places) (m : Kept) (cells : List ℕ) → length all ≤ i → ArePlaces places m
+pub placed_all : (all : List (List Standing)) (i : ℕ) (places : Option PlaceMap) (m : Kept) (cells : List ℕ) → length all ≤ i → ArePlaces places m
     → AreCells (id_at m) cells (candidates (take i all)) → ArePlaced m cells all
 placed_all all i places m cells over are cells_so = record {
   apart = places_apart places m are;

@@ -1,5 +1,5 @@
 -- Scores that are kept, by id.
-use Rattle.std.proofs.Common.{◌≡◌, ℕ, zero, suc, ◌+◌, ◌-◌, ◌<◌, Bool, true, false, ◌||◌, List, [], ◌∷◌, length, take, get_or, set, slice_get, Some, refl, sym, ap, ◌∙◌, subst, inl, inr, arith}
+use Rattle.std.proofs.Common.{◌≡◌, ℕ, zero, suc, ◌+◌, ◌-◌, ◌<◌, Bool, true, false, ◌||◌, List, [], ◌∷◌, length, take, get_or, set, slice_get, Option, Some, refl, sym, ap, ◌∙◌, subst, inl, inr, arith}
 use Rattle.std.specs.Option.{option_map}
 use Rattle.std.specs.List.{AllByRecursion}
 use Rattle.std.proofs.lemmas.Bool.{both_ways, cases_Bool}
@@ -12,8 +12,8 @@ use Rattle.ss_base.specs.Ids.{same_manifest}
 use Rattle.ss_base.specs.Champions.{stands_in}
 use Rattle.ss_base.proofs.IdLaws.{same_manifest-self, same_manifest-true}
 use Rattle.champion_choice.specs.declared.score.Score.{Score}
-use Rattle.champion_choice.specs.Scores.{Kept, score_at, hooks_in, hooks_at, stamp_at, id_at, one_if, AreApart, Places, ArePlaces, HasPlace, HasAdded, HasLowered, StandsOnce}
-use Rattle.champion_choice.proofs.PlaceLaws.{apart_back, apart_same, score_of, set_other, set_ids, set_here, get_here, id_here, id_below, places_apart}
+use Rattle.champion_choice.specs.Scores.{Kept, score_at, hooks_in, hooks_at, stamp_at, id_at, one_if, AreApart, PlaceMap, ArePlaces, HasPlace, HasAdded, HasLowered, StandsOnce}
+use Rattle.champion_choice.proofs.PlaceLaws.{apart_back, apart_same, score_of, set_other, set_ids, set_here, get_here, id_here, id_below, places_apart, places_same}
 use Rattle.ss_base.proofs.MemberLaws.{In, in_append_left, in_append_right}
 use Rattle.champion_choice.specs.Lists.{HasAddedList}
 
@@ -100,7 +100,7 @@ one_less_at m p d w k apart at id stamp hooks =
     (one_less m p (get_or m p d) w apart (get_here m p d (id_below m p k at)) id stamp hooks)
 
 -- what stands there, once it has a place and one hook more
-pub counted_at : (old mid : Kept) (places : Places) (p : ℕ) (d w : Score) (s : Standing) → ArePlaces places mid → HasPlace old mid s p
+pub counted_at : (old mid : Kept) (places : Option PlaceMap) (p : ℕ) (d w : Score) (s : Standing) → ArePlaces places mid → HasPlace old mid s p
     → w.id ≡ (get_or mid p d).id → w.stamp ≡ (get_or mid p d).stamp → w.hooks ≡ (get_or mid p d).hooks + 1 → HasAdded old (set mid p w) s p × ArePlaces places (set mid p w)
 counted_at old mid places p d w s are has id stamp hooks =
     let to : OneMore mid (set mid p w) s.id =
@@ -112,10 +112,7 @@ counted_at old mid places p d w s are has id stamp hooks =
         hooks = λ q. to.hooks q ∙ ap (λ n. n + one_if (same_manifest q s.id)) (has.hooks q);
         stamps = λ q t at. has.stamps q t (sym (to.stamps q) ∙ at);
       },
-      record {
-        there = λ k r at. are.there k r (sym (to.ids r) ∙ at);
-        back = λ k r at. to.ids r ∙ are.back k r at;
-      },
+      places_same places mid (set mid p w) to.ids are,
     )
 
 -- ---- a list that stands at a hook

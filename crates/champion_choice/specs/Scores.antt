@@ -49,13 +49,26 @@ AreCells ids [] (standing ∷ stood) = ⊥
 AreCells ids (place ∷ places) [] = ⊥
 AreCells ids (place ∷ places) (standing ∷ stood) = (ids place ≡ Some standing.id) × AreCells ids places stood
 
--- the place of each score, by its manifest
-abbrev pub Places : Type 0
-Places = hash.HashMap ManifestId ℕ (BuildHasherDefault FxHasher)
+-- no score is the manifest's
+abbrev pub HasNoPlace : Kept → ManifestId → Type 0
+HasNoPlace m id = (p : ℕ) → id_at m p ≡ Some id → ⊥
 
-pub record ArePlaces (places : Places) (m : Kept) : Type 0 where
-  pub there : (id : ManifestId) (p : ℕ) → id_at m p ≡ Some id → hash.get same_manifest places id ≡ Some p
-  pub back : (id : ManifestId) (p : ℕ) → hash.get same_manifest places id ≡ Some p → id_at m p ≡ Some id
+-- the same of the scores before a place
+abbrev pub HasNoPlaceBelow : Kept → ManifestId → ℕ → Type 0
+HasNoPlaceBelow m id i = (p : ℕ) → p < i → id_at m p ≡ Some id → ⊥
+
+-- the place of each score, by its manifest
+abbrev pub PlaceMap : Type 0
+PlaceMap = hash.HashMap ManifestId ℕ (BuildHasherDefault FxHasher)
+
+pub record AreMapped (map : PlaceMap) (m : Kept) : Type 0 where
+  pub there : (id : ManifestId) (p : ℕ) → id_at m p ≡ Some id → hash.get same_manifest map id ≡ Some p
+  pub back : (id : ManifestId) (p : ℕ) → hash.get same_manifest map id ≡ Some p → id_at m p ≡ Some id
+
+-- the places by a map, or that no manifest has two, where the scores are searched
+abbrev pub ArePlaces : Option PlaceMap → Kept → Type 0
+ArePlaces None m = AreApart (id_at m)
+ArePlaces (Some map) m = AreMapped map m
 
 -- what stands there has this place, and all else is as it was
 pub record HasPlace (old new : Kept) (standing : Standing) (place : ℕ) : Type 0 where

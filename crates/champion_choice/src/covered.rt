@@ -6,12 +6,10 @@ ghost use Rattle.ss_base.specs.Champions.{stands_in, hooks_covered};
 ghost use Rattle.champion_choice.specs.Scores.{hooks_at, stamp_at, id_at, AreApart, AreCells, ArePlaces, StandsOnce};
 ghost use Rattle.champion_choice.specs.Lists.{standings, left, remaining, marked, covered_by, HasAddedList, HasCells, IsScored, ArePlaced};
 
+use crate::places::{Places, no_places};
 use crate::score::{Score, add_one, lower};
-use fx_hash::FxMap;
-use ss_base::{ManifestId, Memory, Standing};
+use ss_base::{Memory, Standing};
 use std::alloc::Global;
-use std::collections::HashMap;
-use std::hash::BuildHasherDefault;
 
 // Whether the place is among the cells.
 fn has_cell(cells: &[usize], place: usize) -> bool
@@ -22,7 +20,7 @@ fn has_cell(cells: &[usize], place: usize) -> bool
 
 // Counts one hook more for each manifest in the list, and adds the places of their scores.
 fn add_list(
-    places: &mut FxMap<ManifestId, usize>,
+    places: &mut Places,
     scores: &mut Vec<Score>,
     cells: &mut Vec<usize>,
     stood: &[Standing],
@@ -60,7 +58,7 @@ pub(crate) fn scores_of(
     ensures placed { IfOk result (λ made. ArePlaced made.0.items made.1.items (standings lists.now)) }
 {
     let count = count_of(lists);
-    let mut places = HashMap::with_capacity_and_hasher(alloc, count, BuildHasherDefault::new())?;
+    let mut places = no_places(alloc, count)?;
     let mut scores = Vec::with_capacity(alloc, count)?;
     let mut cells = Vec::with_capacity(alloc, count)?;
     for stood in lists {

@@ -3,6 +3,7 @@
 
 mod choice;
 mod covered;
+mod places;
 mod score;
 
 pub use choice::choose;

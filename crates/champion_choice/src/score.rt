@@ -1,8 +1,8 @@
 // At how many uncovered hooks each manifest stands.
 ghost use Rattle.std.specs.Prelude.{◌≡◌, ℕ, ◌-◌, ◌^◌, ◌<◌, slice_get, Some, OnOk, IfOk};
-ghost use Rattle.champion_choice.specs.Scores.{hooks_at, id_at, AreApart, AreCells, ArePlaces, HasPlace, HasAdded, HasLowered, StandsOnce, is_ahead, better, IsBestOf};
+ghost use Rattle.champion_choice.specs.Scores.{hooks_at, id_at, AreApart, AreCells, ArePlaces, HasAdded, HasLowered, StandsOnce, is_ahead, better, IsBestOf};
 
-use fx_hash::FxMap;
+use crate::places::{Places, place_of};
 use ss_base::{ManifestId, Memory, Standing};
 
 // A manifest, its stamp, and at how many hooks it stands.
@@ -13,32 +13,9 @@ pub(crate) struct Score {
     pub(crate) hooks: usize,
 }
 
-// The place of the manifest's score, which is made where it has none.
-fn place_of(
-    places: &mut FxMap<ManifestId, usize>,
-    scores: &mut Vec<Score>,
-    standing: Standing,
-) -> Result<usize, Memory>
-    requires { ArePlaces places.old scores.old.items }
-    ensures places { OnOk result (ArePlaces places.new scores.new.items) }
-    ensures place { IfOk result (λ place. HasPlace scores.old.items scores.new.items standing place) }
-{
-    if let Some(place) = places.get(&standing.id) {
-        return Ok(*place);
-    }
-    let place = scores.len();
-    scores.push(Score {
-        id: standing.id,
-        stamp: standing.stamp,
-        hooks: 0,
-    })?;
-    places.insert(standing.id, place)?;
-    Ok(place)
-}
-
 // Counts one hook more for what stands there, and tells the place of its score.
 pub(crate) fn add_one(
-    places: &mut FxMap<ManifestId, usize>,
+    places: &mut Places,
     scores: &mut Vec<Score>,
     standing: Standing,
 ) -> Result<usize, Memory>

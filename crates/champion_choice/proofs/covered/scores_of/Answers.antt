@@ -2,15 +2,16 @@ use Rattle.std.proofs.Common.{◌<◌, take, length, List, sym, subst, arith}
 use Rattle.std.proofs.lemmas.List.{length-map}
 use Rattle.ss_base.specs.declared.ids.Standing.{Standing}
 use Rattle.ss_base.specs.Champions.{candidates}
-use Rattle.champion_choice.specs.Scores.{id_at, AreCells, StandsOnce}
+use Rattle.champion_choice.specs.declared.score.Score.{Score}
+use Rattle.champion_choice.specs.Scores.{id_at, AreCells, ArePlaces, StandsOnce}
 use Rattle.champion_choice.specs.Lists.{standings, HasAddedList, HasCells}
-use Rattle.champion_choice.proofs.PlaceLaws.{places_none, cells_start, placed_all}
+use Rattle.champion_choice.proofs.PlaceLaws.{cells_start, placed_all}
 use Rattle.champion_choice.proofs.ListLaws.{scored_none, scored_more, candidates_more, count_bound, item_at}
 use Rattle.champion_choice.proofs.covered.scores_of.Goals as goal
 
 pub loop-stood-init : goal.loop-stood-init
 loop-stood-init c = record {
-  places = places_none c.in_ok-places.places c.in_ok-scores.scores.items c.in_ok-places.ensures.empty c.in_ok-scores.ensures.items;
+  places = subst (λ (m : List Score). ArePlaces c.in_ok-places.places m) (sym c.in_ok-scores.ensures.items) c.in_ok-places.ensures;
   scored = scored_none c.in_ok-scores.scores.items c.in_ok-scores.ensures.items;
   cells = cells_start (id_at c.in_ok-scores.scores.items) c.in_ok-cells.cells.items c.in_ok-cells.ensures.items;
 }
