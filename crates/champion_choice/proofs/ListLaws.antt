@@ -6,12 +6,13 @@ use Rattle.std.proofs.lemmas.List.Elements.{filter-append}
 use Rattle.std.proofs.lemmas.List.Sums.{sum_by-append, count_by-le-length}
 use Rattle.std.proofs.lemmas.List.Filters.{sum_by-filter_both}
 use Rattle.std.proofs.lemmas.Grind.{flat_map-append}
+use Rattle.std.specs.Borrow.{Bor}
 use Rattle.ss_base.specs.declared.ids.ManifestId.{ManifestId}
 use Rattle.ss_base.specs.declared.ids.Standing.{Standing}
 use Rattle.ss_base.specs.Champions.{stands_in, hooks_covered, candidates, uncovered}
 use Rattle.ss_base.proofs.MemberLaws.{In, in_append_left, in_append_right, count_one, count_other}
 use Rattle.champion_choice.specs.Scores.{Kept, hooks_at, stamp_at, one_if}
-use Rattle.champion_choice.specs.Lists.{standings, left, remaining, marked, covered_by, HasAddedList, IsScored}
+use Rattle.champion_choice.specs.Lists.{shown, standings, left, remaining, marked, covered_by, HasAddedList, IsScored}
 
 plus_one : (i : ℕ) → suc i ≡ i + 1
 plus_one i = omega arith
@@ -208,7 +209,19 @@ remaining_marked id (false ∷ fs) (l ∷ ls) same =
     by true xs ys e = e
     by false xs ys e = ap (λ k. l ∷ k) e
 
--- ---- the lists that vectors hold
+-- ---- the lists that slices show, and those that vectors hold
+
+shown_at : (lists : List (Bor (List Standing))) (i : ℕ) (v : Bor (List Standing)) → get_or (shown lists) i v.now ≡ (get_or lists i v).now
+shown_at [] i v = refl
+shown_at (l ∷ ls) zero v = refl
+shown_at (l ∷ ls) (suc i) v = shown_at ls i v
+
+-- a loop's item is read with this default
+abbrev pub no_slice : Bor (List Standing)
+no_slice = record { ref_ptr = (0, 0); now = [] }
+
+pub slice_at : (lists : List (Bor (List Standing))) (i : ℕ) → (get_or lists i no_slice).now ≡ get_or (shown lists) i []
+slice_at lists i = sym (shown_at lists i no_slice)
 
 pub items_at : (lists : List (Vec Standing Global)) (i : ℕ) (v : Vec Standing Global) → get_or (standings lists) i v.items ≡ (get_or lists i v).items
 items_at [] i v = refl

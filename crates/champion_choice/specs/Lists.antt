@@ -1,5 +1,6 @@
 -- The lists of the hooks, of which some are covered (this project's own).
 use Rattle.std.specs.Prelude.{ℕ, ◌≡◌, ◌+◌, ◌==◌, Bool, ◌||◌, List, [], ◌∷◌, ◌++◌, map, filter, Some, Vec, Contains, ◌⊎◌, if◌then◌else◌}
+use Rattle.std.specs.Borrow.{Bor}
 use Rattle.std.specs.declared.alloc.Global.{Global}
 use Rattle.ss_base.specs.declared.ids.ManifestId.{ManifestId}
 use Rattle.ss_base.specs.declared.ids.Standing.{Standing}
@@ -11,6 +12,10 @@ use Rattle.champion_choice.specs.Scores.{Kept, hooks_at, stamp_at, one_if, id_at
 -- the lists that these vectors hold
 abbrev pub standings : List (Vec Standing Global) → List (List Standing)
 standings lists = map (λ list. list.items) lists
+
+-- the lists that these slices show
+abbrev pub shown : List (Bor (List Standing)) → List (List Standing)
+shown lists = map (λ list. list.now) lists
 
 -- of all that stands at some hook, two ids are equal exactly where their stamps are
 abbrev pub StampsTell : List (List Standing) → Type 0

@@ -2,7 +2,7 @@
 ghost use Rattle.std.specs.Prelude.{◌≡◌, ◌≤◌, All, IfOk};
 ghost use Rattle.ss_base.specs.Champions.{champions};
 ghost use Rattle.champion_choice.specs.Scores.{StandsOnce};
-ghost use Rattle.champion_choice.specs.Lists.{standings, StampsTell};
+ghost use Rattle.champion_choice.specs.Lists.{shown, standings, StampsTell};
 
 use crate::covered::{cover, scores_of};
 use crate::score::best;
@@ -14,14 +14,14 @@ use std::alloc::Global;
 /// takes the manifest that stands at the most hooks not yet covered, of several such the one with the greatest stamp
 /// (FAST 2009; the rule on ties is this project's own). The choice ends early where nothing stands at such a hook. A
 /// manifest stands at most once in a list, and two ids are equal exactly where their stamps are.
-pub fn choose<const M: usize>(
+pub fn choose_among<const M: usize>(
     alloc: Global,
-    lists: &[Vec<Standing>],
+    lists: &[&[Standing]],
 ) -> Result<ArrayVec<ManifestId, M>, Memory>
     requires rounds { (1 ≤ M) × (M ≤ 255) }
-    requires once { All StandsOnce (standings lists.now) }
-    requires stamps { StampsTell (standings lists.now) }
-    ensures { IfOk result (λ chosen. chosen.items ≡ champions M (standings lists.now)) }
+    requires once { All StandsOnce (shown lists.now) }
+    requires stamps { StampsTell (shown lists.now) }
+    ensures { IfOk result (λ chosen. chosen.items ≡ champions M (shown lists.now)) }
 {
     let (mut scores, cells) = scores_of(alloc, lists)?;
     let mut covered = vec![in alloc; false; lists.len()]?;
@@ -40,4 +40,29 @@ pub fn choose<const M: usize>(
         );
     }
     Ok(chosen)
+}
+
+/// The same of lists in vectors.
+pub fn choose<const M: usize>(
+    alloc: Global,
+    lists: &[Vec<Standing>],
+) -> Result<ArrayVec<ManifestId, M>, Memory>
+    requires rounds { (1 ≤ M) × (M ≤ 255) }
+    requires once { All StandsOnce (standings lists.now) }
+    requires stamps { StampsTell (standings lists.now) }
+    ensures { IfOk result (λ chosen. chosen.items ≡ champions M (standings lists.now)) }
+{
+    let slices = slices_of(alloc, lists)?;
+    choose_among(alloc, slices.as_slice())
+}
+
+// The lists that the vectors hold.
+fn slices_of(alloc: Global, lists: &[Vec<Standing>]) -> Result<Vec<&[Standing]>, Memory>
+    ensures { IfOk result (λ slices. shown slices.items ≡ standings lists.now) }
+{
+    let mut slices = Vec::with_capacity(alloc, lists.len())?;
+    for list in lists {
+        slices.push(list.as_slice())?;
+    }
+    Ok(slices)
 }

@@ -4,7 +4,7 @@ ghost use Rattle.std.specs.List.{list_any};
 ghost use Rattle.ss_base.specs.declared.ids.ManifestId.{ManifestId as Id};
 ghost use Rattle.ss_base.specs.Champions.{stands_in, hooks_covered};
 ghost use Rattle.champion_choice.specs.Scores.{hooks_at, stamp_at, id_at, AreApart, AreCells, ArePlaces, StandsOnce};
-ghost use Rattle.champion_choice.specs.Lists.{standings, left, remaining, marked, covered_by, HasAddedList, HasCells, IsScored, ArePlaced};
+ghost use Rattle.champion_choice.specs.Lists.{shown, left, remaining, marked, covered_by, HasAddedList, HasCells, IsScored, ArePlaced};
 
 use crate::places::{Places, no_places};
 use crate::score::{Score, add_one, lower};
@@ -40,7 +40,7 @@ fn add_list(
 }
 
 // So many stand in the lists.
-fn count_of(lists: &[Vec<Standing>]) -> usize {
+fn count_of(lists: &[&[Standing]]) -> usize {
     let mut count = 0usize;
     for stood in lists {
         count = count.saturating_add(stood.len());
@@ -51,18 +51,18 @@ fn count_of(lists: &[Vec<Standing>]) -> usize {
 // The scores by all of the lists, and the place of the score of each that stands in them, list by list.
 pub(crate) fn scores_of(
     alloc: Global,
-    lists: &[Vec<Standing>],
+    lists: &[&[Standing]],
 ) -> Result<(Vec<Score>, Vec<usize>), Memory>
-    requires { All StandsOnce (standings lists.now) }
-    ensures scored { IfOk result (λ made. IsScored made.0.items (standings lists.now)) }
-    ensures placed { IfOk result (λ made. ArePlaced made.0.items made.1.items (standings lists.now)) }
+    requires { All StandsOnce (shown lists.now) }
+    ensures scored { IfOk result (λ made. IsScored made.0.items (shown lists.now)) }
+    ensures placed { IfOk result (λ made. ArePlaced made.0.items made.1.items (shown lists.now)) }
 {
     let count = count_of(lists);
     let mut places = no_places(alloc, count)?;
     let mut scores = Vec::with_capacity(alloc, count)?;
     let mut cells = Vec::with_capacity(alloc, count)?;
     for stood in lists {
-        add_list(&mut places, &mut scores, &mut cells, stood.as_slice())?;
+        add_list(&mut places, &mut scores, &mut cells, stood)?;
     }
     Ok((scores, cells))
 }
@@ -99,24 +99,24 @@ fn cover_hook(
 pub(crate) fn cover(
     scores: &mut [Score],
     cells: &[usize],
-    lists: &[Vec<Standing>],
+    lists: &[&[Standing]],
     covered: &mut [bool],
     champion: (usize, Score),
 )
-    requires once { All StandsOnce (standings lists.now) }
+    requires once { All StandsOnce (shown lists.now) }
     requires fits { length covered.old ≡ length lists.now }
     requires champion { id_at scores.old champion.0 ≡ Some champion.1.id }
-    requires placed { ArePlaced scores.old cells.now (standings lists.now) }
-    ensures covered { covered.new ≡ marked champion.1.id (standings lists.now) covered.old }
+    requires placed { ArePlaced scores.old cells.now (shown lists.now) }
+    ensures covered { covered.new ≡ marked champion.1.id (shown lists.now) covered.old }
     ensures ids { (p : ℕ) → id_at scores.new p ≡ id_at scores.old p }
-    ensures hooks { (q : Id) → hooks_at scores.new q ≡ hooks_at scores.old q - hooks_covered (covered_by champion.1.id (remaining covered.old (standings lists.now))) q }
+    ensures hooks { (q : Id) → hooks_at scores.new q ≡ hooks_at scores.old q - hooks_covered (covered_by champion.1.id (remaining covered.old (shown lists.now))) q }
     ensures stamps { (q : Id) → stamp_at scores.new q ≡ stamp_at scores.old q }
 {
     let mut rest = cells;
     for (i, stood) in lists.iter().enumerate() {
         let (own, behind) = rest.split_at(stood.len());
         rest = behind;
-        let now = cover_hook(scores, stood.as_slice(), own, covered[i], champion);
+        let now = cover_hook(scores, stood, own, covered[i], champion);
         covered[i] = now;
     }
 }

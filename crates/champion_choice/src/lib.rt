@@ -6,7 +6,7 @@ mod covered;
 mod places;
 mod score;
 
-pub use choice::choose;
+pub use choice::{choose, choose_among};
 
 #[cfg(test)]
 mod tests;

@@ -1,12 +1,12 @@
-use Rattle.std.proofs.Common.{◌<◌, take, length, List, sym, subst, arith}
+use Rattle.std.proofs.Common.{◌<◌, take, length, List, [], sym, subst, arith}
 use Rattle.std.proofs.lemmas.List.{length-map}
 use Rattle.ss_base.specs.declared.ids.Standing.{Standing}
 use Rattle.ss_base.specs.Champions.{candidates}
 use Rattle.champion_choice.specs.declared.score.Score.{Score}
 use Rattle.champion_choice.specs.Scores.{id_at, AreCells, ArePlaces, StandsOnce}
-use Rattle.champion_choice.specs.Lists.{standings, HasAddedList, HasCells}
+use Rattle.champion_choice.specs.Lists.{shown, HasAddedList, HasCells}
 use Rattle.champion_choice.proofs.PlaceLaws.{cells_start, placed_all}
-use Rattle.champion_choice.proofs.ListLaws.{scored_none, scored_more, candidates_more, count_bound, item_at}
+use Rattle.champion_choice.proofs.ListLaws.{scored_none, scored_more, candidates_more, count_bound, slice_at}
 use Rattle.champion_choice.proofs.covered.scores_of.Goals as goal
 
 pub loop-stood-init : goal.loop-stood-init
@@ -18,27 +18,27 @@ loop-stood-init c = record {
 
 pub add_list-requires-clause-once : goal.add_list-requires-clause-once
 add_list-requires-clause-once c =
-    let same = item_at c.args.lists.now c.loop-stood.stood-index c.stood-item.result c.as_slice.result.now c.as_slice.ensures.value c.stood-item.is in
-    let below : c.loop-stood.stood-index < length (standings c.args.lists.now) = omega (arith, length-map c.args.lists.now (λ v. v.items)) in
-    subst StandsOnce (sym same) (c.requires c.loop-stood.stood-index c.stood-item.result.items below)
+    let same = slice_at c.args.lists.now c.loop-stood.stood-index in
+    let below : c.loop-stood.stood-index < length (shown c.args.lists.now) = omega (arith, length-map c.args.lists.now (λ v. v.now)) in
+    subst StandsOnce (sym same) (c.requires c.loop-stood.stood-index [] below)
 
 pub add_list-requires-clause-room : goal.add_list-requires-clause-room
 add_list-requires-clause-room c q =
-    let long = length-map c.args.lists.now (λ v. v.items) in
+    let long = length-map c.args.lists.now (λ v. v.now) in
     let below = c.loop-stood-test.true in
-    let few = count_bound (standings c.args.lists.now) c.loop-stood.stood-index q (omega (arith, long, below)) in
+    let few = count_bound (shown c.args.lists.now) c.loop-stood.stood-index q (omega (arith, long, below)) in
     let so = c.loop-stood.invariant.scored.hooks q in
     omega (arith, so, few, below)
 
 pub loop-stood-preserved : goal.loop-stood-preserved
 loop-stood-preserved c =
-    let all = standings c.args.lists.now in
+    let all = shown c.args.lists.now in
     let i = c.loop-stood.stood-index in
-    let d = c.stood-item.result.items in
+    let d : List Standing = [] in
     let m = c.loop-stood.scores.items in
     let n = c.add_list.new.scores.items in
-    let same = item_at c.args.lists.now i c.stood-item.result c.as_slice.result.now c.as_slice.ensures.value c.stood-item.is in
-    let below : i < length all = omega (arith, length-map c.args.lists.now (λ v. v.items)) in
+    let same = slice_at c.args.lists.now i in
+    let below : i < length all = omega (arith, length-map c.args.lists.now (λ v. v.now)) in
     record {
       places = c.in_ok-add_list.ensures.places;
       scored = scored_more all i d m n below c.loop-stood.invariant.scored (subst (λ (stood : List Standing). HasAddedList m n stood) same c.in_ok-add_list.ensures.added);
@@ -49,6 +49,6 @@ loop-stood-preserved c =
 
 pub returns-clause-placed : goal.returns-clause-placed
 returns-clause-placed c =
-    let long = length-map c.args.lists.now (λ v. v.items) in
-    placed_all (standings c.args.lists.now) c.loop-stood.stood-index c.loop-stood.places c.loop-stood.scores.items c.loop-stood.cells.items (let over = c.loop-stood-test.false in omega (arith, long, over))
+    let long = length-map c.args.lists.now (λ v. v.now) in
+    placed_all (shown c.args.lists.now) c.loop-stood.stood-index c.loop-stood.places c.loop-stood.scores.items c.loop-stood.cells.items (let over = c.loop-stood-test.false in omega (arith, long, over))
     c.loop-stood.invariant.places c.loop-stood.invariant.cells

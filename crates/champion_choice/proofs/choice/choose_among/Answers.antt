@@ -5,11 +5,11 @@ use Rattle.std.specs.Vec.{with_items}
 use Rattle.ss_base.specs.Champions.{hooks_covered, uncovered, best, champions}
 use Rattle.champion_choice.specs.declared.score.Score.{Score}
 use Rattle.champion_choice.specs.Scores.{IsBestOf, hooks_at, stamp_at, id_at}
-use Rattle.champion_choice.specs.Lists.{standings, remaining, marked, covered_by, ArePlaced}
+use Rattle.champion_choice.specs.Lists.{shown, remaining, marked, covered_by, ArePlaced}
 use Rattle.champion_choice.proofs.ListLaws.{remaining_all, remaining_marked, length_marked, count_parts}
 use Rattle.champion_choice.proofs.PlaceLaws.{placed_same}
 use Rattle.champion_choice.proofs.ChoiceLaws.{IsRound, remaining_candidates, best_left, none_left, champions_over, champions_more, champions_none}
-use Rattle.champion_choice.proofs.choice.choose.Goals as goal
+use Rattle.champion_choice.proofs.choice.choose_among.Goals as goal
 
 rest_of : (a b whole : ℕ) → a + b ≡ whole → whole - a ≡ b
 rest_of a b whole e = omega arith
@@ -19,8 +19,8 @@ less_zero n = omega arith
 
 pub loop-round-init : goal.loop-round-init
 loop-round-init g c =
-    let all = standings c.args.lists.now in
-    let long = length-map c.args.lists.now (λ v. v.items) in
+    let all = shown c.args.lists.now in
+    let long = length-map c.args.lists.now (λ v. v.now) in
     let made : c.in_ok-covered.covered.items ≡ replicate (length c.args.lists.now) false = c.in_ok-covered.ensures.items_if_clones_equal (search rules) in
     let flags : c.in_ok-covered.covered.items ≡ replicate (length all) false = made ∙ ap (λ n. replicate n false) (sym long) in
     let rest : remaining c.in_ok-covered.covered.items all ≡ all = ap (λ f. remaining f all) flags ∙ remaining_all all in
@@ -35,7 +35,7 @@ loop-round-init g c =
 
 pub returns-in_default : goal.returns-in_default
 returns-in_default g c =
-    let all = standings c.args.lists.now in
+    let all = shown c.args.lists.now in
     let flags = c.loop-round.covered.items in
     let rest = remaining flags all in
     let round : IsRound c.loop-round.scores.items all rest = record {
@@ -54,13 +54,13 @@ returns-in_default g c =
 
 pub loop-round-preserved : goal.loop-round-preserved
 loop-round-preserved g c =
-    let all = standings c.args.lists.now in
+    let all = shown c.args.lists.now in
     let flags = c.loop-round.covered.items in
     let rest = remaining flags all in
     let m = c.loop-round.scores.items in
     let s = c.in-Some.champion.1 in
     let id = s.id in
-    let long = length-map c.args.lists.now (λ v. v.items) in
+    let long = length-map c.args.lists.now (λ v. v.now) in
     let fits : length flags ≡ length all = c.loop-round.invariant.fits ∙ sym long in
     let round : IsRound m all rest = record {
       tell = c.requires.stamps;
@@ -109,7 +109,7 @@ loop-round-preserved g c =
 
 pub returns : goal.returns
 returns g c =
-    let all = standings c.args.lists.now in
+    let all = shown c.args.lists.now in
     let rest = remaining c.loop-round.covered.items all in
     let over : g.row.M - c.loop-round._round ≡ 0 = omega arith in
     sym (append-nil c.loop-round.chosen.items)
