@@ -1,9 +1,9 @@
 -- The best by score is the best of the definition.
-use Rattle.std.proofs.Common.{◌≡◌, ◌⊎◌, ℕ, ◌+◌, length, get_or, slice_get, ◌<◌, ◌≤◌, true, false, eqb, ltb, leb, ◌&&◌, List, Option, Some, None, refl, sym, ap, ◌∙◌, subst, inl, inr, arith, eqb-true}
+use Rattle.std.proofs.Common.{◌≡◌, ◌⊎◌, ℕ, ◌+◌, length, get_or, slice_get, ◌<◌, ◌≤◌, true, false, eqb, ltb, leb, ◌&&◌, Some, None, refl, sym, ap, ◌∙◌, subst, inl, inr, arith, eqb-true}
 use Rattle.std.proofs.lemmas.Bool.{both_ways, cases_Bool, and_parts, and_from, or_cases, or_left, or_right, lt-ltb, ltb-true, le-leb, leb-true, eq-eqb, eqb-false, ltb-false, leb-false}
 use Rattle.champion_choice.specs.declared.score.Score.{Score}
 use Rattle.champion_choice.proofs.PlaceLaws.{get_here, get_below}
-use Rattle.champion_choice.specs.Scores.{is_ahead, better, IsBestOf}
+use Rattle.champion_choice.specs.Scores.{Kept, is_ahead, IsBestOf}
 
 -- ahead, as an order on numbers
 abbrev pub IsAhead : Score → Score → Type 0
@@ -45,74 +45,49 @@ behind a b e = true-ahead b a (elim (cases_Bool (ltb b.hooks a.hooks)) [
   ]
 ])
 
-above_zero : (n : ℕ) → eqb n 0 ≡ false → 0 < n
-above_zero n e = let ne = eqb-false n 0 e in omega (arith, ne)
+some_score : (a b : Score) → Some a ≡ Some b → a ≡ b
+some_score a b e = cc
 
-pub better_of : (Seen : ℕ × Score → Type 0) (best : Option (ℕ × Score)) (x : ℕ × Score) → IsBestOf Seen best → IsBestOf (λ e. Seen e ⊎ (x ≡ e)) (better best x)
-better_of Seen None x so = elim (cases_Bool (eqb x.1.hooks 0)) [
-  | inl none ↦ rw none (λ e seen. elim seen [ inl old ↦ so e old | inr same ↦ ap (λ (s : ℕ × Score). s.1.hooks) (sym same) ∙ eqb-true x.1.hooks 0 none ])
-  | inr some ↦ rw some (
-    inr refl,
-    above_zero x.1.hooks some,
-    (λ e seen. elim seen [
-      | inl old ↦ true-ahead x.1 e.1 (inl (let zero_is = so e old in let above = above_zero x.1.hooks some in omega (arith, zero_is, above)))
-      | inr same ↦ subst (λ (s : ℕ × Score). is_ahead x.1 s.1 ≡ true) same (ahead_itself x.1)
-    ]),
-  )
-]
-better_of Seen (Some b) x so = elim (cases_Bool (is_ahead x.1 b.1)) [
-  | inl wins ↦ rw wins (
-    inr refl,
-    elim (ahead-true x.1 b.1 wins) as (λ _. 0 < x.1.hooks) [ inl more ↦ (let low = so.1 in omega (arith, low, more)) | inr tie ↦ (let low = so.1 in let e = tie.0 in omega (arith, low, e)) ],
-    (λ e seen. elim seen [
-      | inl old ↦ ahead_trans x.1 b.1 e.1 wins (so.2 e old)
-      | inr same ↦ subst (λ (s : ℕ × Score). is_ahead x.1 s.1 ≡ true) same (ahead_itself x.1)
-    ]),
-  )
-  | inr loses ↦ rw loses (
-    inl so.0,
-    so.1,
-    (λ e seen. elim seen [
-      | inl old ↦ so.2 e old
-      | inr same ↦ subst (λ (s : ℕ × Score). is_ahead b.1 s.1 ≡ true) same (behind x.1 b.1 loses)
-    ]),
-  )
-]
+-- none of the first scores is ahead, and it is one of them where it stands at a hook
+pub record IsBestBefore (m : Kept) (i at : ℕ) (b : Score) : Type 0 where
+  pub ahead : (p : ℕ) (s : Score) → p < i → slice_get m p ≡ Some s → is_ahead b s ≡ true
+  pub seen : 0 < b.hooks → slice_get m at ≡ Some b
 
-pub widened : (Seen Also : ℕ × Score → Type 0) → ((e : ℕ × Score) → Seen e → Also e) → ((e : ℕ × Score) → Also e → Seen e) → (best : Option (ℕ × Score)) → IsBestOf Seen best → IsBestOf Also best
-widened Seen Also to from None so = λ e also. so e (from e also)
-widened Seen Also to from (Some b) so = (to b so.0, so.1, (λ e also. so.2 e (from e also)))
+pub best_start : (m : Kept) (at : ℕ) (b : Score) → b.hooks ≡ 0 → IsBestBefore m 0 at b
+best_start m at b none = record { ahead = λ p s low is. absurd (omega arith); seen = λ some. absurd (omega (arith, none, some)) }
 
--- none has been seen
-pub best_none : (Seen : ℕ × Score → Type 0) → ((e : ℕ × Score) → Seen e → ⊥) → IsBestOf Seen None
-best_none Seen none e seen = absurd (none e seen)
+module _ (m : Kept) (i : ℕ) (d : Score) (at : ℕ) (b : Score) (below : i < length m) (so : IsBestBefore m i at b) where
+  -- what is ahead of the next score and of those before it
+  ahead_next : (x : Score) → is_ahead x (get_or m i d) ≡ true → ((s : Score) → is_ahead b s ≡ true → is_ahead x s ≡ true)
+      → (p : ℕ) (s : Score) → p < i + 1 → slice_get m p ≡ Some s → is_ahead x s ≡ true
+  ahead_next x here before p s low is = elim (cases_Bool (eqb p i)) [
+    | inl same ↦
+        let score : get_or m i d ≡ s = some_score (get_or m i d) s (sym (get_here m i d below) ∙ ap (slice_get m) (sym (eqb-true p i same)) ∙ is) in
+        subst (λ (t : Score). is_ahead x t ≡ true) score here
+    | inr other ↦ before s (so.ahead p s (let ne = eqb-false p i other in omega (arith, low, ne)) is)
+  ]
 
--- one place more has been seen
-pub best_more : (m : List Score) (i : ℕ) (d : Score) (best : Option (ℕ × Score)) → i < length m
-    → IsBestOf (λ e. (e.0 < i) × (slice_get m e.0 ≡ Some e.1)) best → IsBestOf (λ e. (e.0 < i + 1) × (slice_get m e.0 ≡ Some e.1)) (better best (i, get_or m i d))
-best_more m i d best below so =
-    let x : ℕ × Score = (i, get_or m i d) in
-    widened (λ e. ((e.0 < i) × (slice_get m e.0 ≡ Some e.1)) ⊎ (x ≡ e)) (λ e. (e.0 < i + 1) × (slice_get m e.0 ≡ Some e.1))
-    (λ e seen. elim seen [
-      | inl old ↦ ((let low = old.0 in omega (arith, low)), old.1)
-      | inr same ↦ subst (λ (y : ℕ × Score). (y.0 < i + 1) × (slice_get m y.0 ≡ Some y.1)) same (omega arith, get_here m i d below)
-    ])
-    (λ e seen. elim (cases_Bool (ltb e.0 i)) [
-      | inl low ↦ inl (ltb-true e.0 i low, seen.1)
-      | inr high ↦
-          let place : i ≡ e.0 = (let top = seen.0 in let no = ltb-false e.0 i high in omega (arith, top, no)) in
-          let score : get_or m i d ≡ e.1 = some_score (get_or m i d) e.1 (sym (get_here m i d below) ∙ ap (slice_get m) place ∙ seen.1) in
-          inr (λ j. (place j, score j))
-    ])
-    (better best x)
-    (better_of (λ e. (e.0 < i) × (slice_get m e.0 ≡ Some e.1)) best x so)
-  where
-    some_score : (a b : Score) → Some a ≡ Some b → a ≡ b
-    some_score a b e = cc
+  pub best_stays : is_ahead (get_or m i d) b ≡ false → IsBestBefore m (i + 1) at b
+  best_stays loses = record {
+    ahead = ahead_next b (behind (get_or m i d) b loses) (λ s before. before);
+    seen = so.seen;
+  }
 
--- all places have been seen
-pub best_all : (m : List Score) (i : ℕ) (best : Option (ℕ × Score)) → length m ≤ i
-    → IsBestOf (λ e. (e.0 < i) × (slice_get m e.0 ≡ Some e.1)) best → IsBestOf (λ e. slice_get m e.0 ≡ Some e.1) best
-best_all m i best over so =
-    widened (λ e. (e.0 < i) × (slice_get m e.0 ≡ Some e.1)) (λ e. slice_get m e.0 ≡ Some e.1) (λ e seen. seen.1)
-    (λ e seen. ((let low = get_below m e.0 e.1 seen in omega (arith, low, over)), seen)) best so
+  pub best_next : is_ahead (get_or m i d) b ≡ true → IsBestBefore m (i + 1) i (get_or m i d)
+  best_next wins = record {
+    ahead = ahead_next (get_or m i d) (ahead_itself (get_or m i d)) (λ s before. ahead_trans (get_or m i d) b s wins before);
+    seen = λ some. get_here m i d below;
+  }
+
+module _ (m : Kept) (i at : ℕ) (b : Score) (over : length m ≤ i) (so : IsBestBefore m i at b) where
+  ahead_of : (p : ℕ) (s : Score) → slice_get m p ≡ Some s → is_ahead b s ≡ true
+  ahead_of p s is = so.ahead p s (let low = get_below m p s is in omega (arith, low, over)) is
+
+  pub no_best : b.hooks ≡ 0 → IsBestOf m None
+  no_best none p s is = elim (ahead-true b s (ahead_of p s is)) [
+    | inl more ↦ absurd (omega (arith, more, none))
+    | inr tie ↦ sym tie.0 ∙ none
+  ]
+
+  pub best_is : 0 < b.hooks → IsBestOf m (Some (at, b))
+  best_is some = (so.seen some, some, ahead_of)

@@ -1,5 +1,5 @@
 -- The best by score is the best of the definition, round by round.
-use Rattle.std.proofs.Common.{◌≡◌, ℕ, zero, suc, ◌<◌, Bool, true, false, eqb, ltb, leb, cond, ◌&&◌, ◌||◌, List, [], ◌∷◌, slice_get, Option, Some, None, refl, sym, ap, ◌∙◌, subst, inl, inr, arith, eqb-true}
+use Rattle.std.proofs.Common.{◌≡◌, ℕ, zero, suc, ◌<◌, Bool, true, false, eqb, ltb, leb, cond, ◌&&◌, ◌||◌, List, [], ◌∷◌, Option, Some, None, refl, sym, ap, ◌∙◌, subst, inl, inr, arith, eqb-true}
 use Rattle.std.specs.List.{find, list_any, list_all, Contains}
 use Rattle.std.specs.Option.{option_map_or, option_map}
 use Rattle.std.proofs.lemmas.Bool.{both_ways, cases_Bool, and_parts, and_from, or_cases, ltb-true, leb-true, eq-eqb}
@@ -114,17 +114,17 @@ module _ (m : Kept) (all rest : List (List Standing)) (round : IsRound m all res
   has_score : (x : Standing) → In x (candidates rest) → (s : Score) × (score_at m x.id ≡ Some s)
   has_score x h = scored (score_at m x.id) (let some = counted x rest h in let same = round.hooks x.id in omega (arith, some, same))
 
-  pub none_left : IsBestOf (λ e. slice_get m e.0 ≡ Some e.1) None → best rest ≡ None
+  pub none_left : IsBestOf m None → best rest ≡ None
   unfolding best
   none_left so = ap (λ xs. find (λ a. is_unbeaten rest (candidates rest) a) xs) (nothing (candidates rest) (λ x h.
       let s = has_score x h in
       let at = place_found m x.id s.0 s.1 in
-      let zero_is : (s.0).hooks ≡ 0 = so (at.0, s.0) at.1 in
+      let zero_is : (s.0).hooks ≡ 0 = so at.0 s.0 at.1 in
       let same : (s.0).hooks ≡ hooks_covered rest x.id = sym (ap hooks_in s.1) ∙ round.hooks x.id in
       let some = counted x rest h in
       absurd (omega (arith, zero_is, same, some))))
 
-  module _ (apart : AreApart (id_at m)) (place : ℕ) (s : Score) (so : IsBestOf (λ e. slice_get m e.0 ≡ Some e.1) (Some (place, s))) where
+  module _ (apart : AreApart (id_at m)) (place : ℕ) (s : Score) (so : IsBestOf m (Some (place, s))) where
     first : Standing
     first = record { id = s.id; stamp = s.stamp }
 
@@ -148,7 +148,7 @@ module _ (m : Kept) (all rest : List (List Standing)) (round : IsRound m all res
     first_beats x h =
         let t = has_score x h in
         let at = place_found m x.id t.0 t.1 in
-        let ahead : is_ahead s t.0 ≡ true = so.2 (at.0, t.0) at.1 in
+        let ahead : is_ahead s t.0 ≡ true = so.2 at.0 t.0 at.1 in
         let theirs : hooks_covered rest x.id ≡ (t.0).hooks = sym (round.hooks x.id) ∙ ap hooks_in t.1 in
         let y : Standing = record { id = x.id; stamp = (t.0).stamp } in
         let stamp : x.stamp ≡ (t.0).stamp = same_stamp all round.tell x y (round.within x h) (round.stamps x.id (t.0).stamp (ap (option_map (λ (z : Score). z.stamp)) t.1)) refl in

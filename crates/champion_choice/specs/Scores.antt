@@ -1,5 +1,5 @@
 -- The scores of manifests: at how many hooks each stands, and its stamp (this project's own).
-use Rattle.std.specs.Prelude.{ℕ, ◌≡◌, ◌+◌, ◌-◌, ◌<◌, ◌==◌, Bool, true, ◌&&◌, ◌||◌, nat_lt, nat_le, cond, List, [], ◌∷◌, find, slice_get, Option, None, Some, ◌⊎◌, if◌then◌else◌}
+use Rattle.std.specs.Prelude.{ℕ, ◌≡◌, ◌+◌, ◌-◌, ◌<◌, ◌==◌, Bool, true, ◌&&◌, ◌||◌, nat_lt, nat_le, cond, List, [], ◌∷◌, find, slice_get, Option, None, Some, ◌⊎◌}
 use Rattle.std.specs.List.{IsDistinct}
 use Rattle.std.specs.Option.{option_map}
 use Rattle.std.specs.HashMap as hash
@@ -98,12 +98,7 @@ StandsOnce stood = IsDistinct (λ (a b : Standing). same_manifest a.id b.id) sto
 abbrev pub is_ahead : Score → Score → Bool
 is_ahead a b = nat_lt b.hooks a.hooks || ((a.hooks == b.hooks) && nat_le b.stamp a.stamp)
 
--- the better of the best so far and one that stands at a hook, each with its place
-abbrev pub better : Option (ℕ × Score) → ℕ × Score → Option (ℕ × Score)
-better None scored = if scored.1.hooks == 0 then None else Some scored
-better (Some best) scored = if is_ahead scored.1 best.1 then Some scored else Some best
-
--- the best of what was seen, where something stands at a hook
-abbrev pub IsBestOf : (ℕ × Score → Type 0) → Option (ℕ × Score) → Type 0
-IsBestOf Seen None = (e : ℕ × Score) → Seen e → e.1.hooks ≡ 0
-IsBestOf Seen (Some b) = Seen b × (0 < b.1.hooks) × ((e : ℕ × Score) → Seen e → is_ahead b.1 e.1 ≡ true)
+-- the best of the scores, with its place, where one stands at a hook
+abbrev pub IsBestOf : Kept → Option (ℕ × Score) → Type 0
+IsBestOf m None = (p : ℕ) (s : Score) → slice_get m p ≡ Some s → s.hooks ≡ 0
+IsBestOf m (Some b) = (slice_get m b.0 ≡ Some b.1) × (0 < b.1.hooks) × ((p : ℕ) (s : Score) → slice_get m p ≡ Some s → is_ahead b.1 s ≡ true)

@@ -1,6 +1,6 @@
 // At how many uncovered hooks each manifest stands.
 ghost use Rattle.std.specs.Prelude.{◌≡◌, ℕ, ◌-◌, ◌^◌, ◌<◌, slice_get, Some, OnOk, IfOk};
-ghost use Rattle.champion_choice.specs.Scores.{hooks_at, id_at, AreApart, AreCells, ArePlaces, HasAdded, HasLowered, StandsOnce, is_ahead, better, IsBestOf};
+ghost use Rattle.champion_choice.specs.Scores.{hooks_at, id_at, AreApart, AreCells, ArePlaces, HasAdded, HasLowered, StandsOnce, is_ahead, IsBestOf};
 
 use crate::places::{Places, place_of};
 use ss_base::{ManifestId, Memory, Standing};
@@ -12,6 +12,13 @@ pub(crate) struct Score {
     pub(crate) stamp: u32,
     pub(crate) hooks: usize,
 }
+
+// No score, behind which no other is.
+const NOBODY: Score = Score {
+    id: ManifestId { session: 0, seq: 0 },
+    stamp: 0,
+    hooks: 0,
+};
 
 // Counts one hook more for what stands there, and tells the place of its score.
 pub(crate) fn add_one(
@@ -49,35 +56,20 @@ fn is_ahead(a: Score, b: Score) -> bool
     b.hooks < a.hooks || (a.hooks == b.hooks && b.stamp <= a.stamp)
 }
 
-// The better of the best so far and one that stands at a hook.
-fn better(best: Option<(usize, Score)>, place: usize, score: Score) -> Option<(usize, Score)>
-    ensures { result ≡ better best (place, score) }
-{
-    match best {
-        None => {
-            if score.hooks == 0 {
-                None
-            } else {
-                Some((place, score))
-            }
-        }
-        Some((first, other)) => {
-            if is_ahead(score, other) {
-                Some((place, score))
-            } else {
-                Some((first, other))
-            }
-        }
-    }
-}
-
 // The best score and its place, if one stands at an uncovered hook.
 pub(crate) fn best(scores: &[Score]) -> Option<(usize, Score)>
-    ensures { IsBestOf (λ scored. slice_get scores.now scored.0 ≡ Some scored.1) result }
+    ensures { IsBestOf scores.now result }
 {
-    let mut best = None;
+    let mut best = NOBODY;
+    let mut at = 0;
     for (place, score) in scores.iter().enumerate() {
-        best = better(best, place, *score);
+        if is_ahead(*score, best) {
+            best = *score;
+            at = place;
+        }
     }
-    best
+    if best.hooks == 0 {
+        return None;
+    }
+    Some((at, best))
 }

@@ -1,4 +1,4 @@
-use Rattle.std.proofs.Common.{◌≡◌, ℕ, ◌+◌, ◌-◌, ◌++◌, [], ◌∷◌, suc, List, slice_get, length, replicate, false, Option, Some, None, sym, ap, ◌∙◌, subst, arith, rules}
+use Rattle.std.proofs.Common.{◌≡◌, ℕ, ◌+◌, ◌-◌, ◌++◌, [], ◌∷◌, suc, List, length, replicate, false, Option, Some, None, sym, ap, ◌∙◌, subst, arith, rules}
 use Rattle.std.proofs.lemmas.List.{append-nil, append_assoc, length-map, length-replicate, with_items_is}
 use Rattle.std.specs.Option.{option_map}
 use Rattle.std.specs.Vec.{with_items}
@@ -46,8 +46,8 @@ returns-in_default g c =
     } in
     let m = c.loop-round.scores.items in
     let so =
-    subst (λ (l : List Score). IsBestOf (λ e. slice_get l e.0 ≡ Some e.1) None) c.as_slice.ensures.value
-    (subst (λ (o : Option (ℕ × Score)). IsBestOf (λ e. slice_get c.as_slice.result.now e.0 ≡ Some e.1) o) c.in_default.is c.best.ensures) in
+    subst (λ (l : List Score). IsBestOf l None) c.as_slice.ensures.value
+    (subst (λ (o : Option (ℕ × Score)). IsBestOf c.as_slice.result.now o) c.in_default.is c.best.ensures) in
     sym (append-nil c.loop-round.chosen.items)
     ∙ ap (λ ids. c.loop-round.chosen.items ++ ids) (sym (champions_none (g.row.M - c.loop-round._round) rest (none_left m all rest round so)))
     ∙ c.loop-round.invariant.chosen
@@ -68,7 +68,7 @@ loop-round-preserved g c =
       stamps = c.loop-round.invariant.stamps;
       within = remaining_candidates flags all;
     } in
-    let so = subst (λ (l : List Score). IsBestOf (λ e. slice_get l e.0 ≡ Some e.1) (Some (c.in-Some.champion.0, s))) c.as_slice.ensures.value c.in-Some.ensures in
+    let so = subst (λ (l : List Score). IsBestOf l (Some (c.in-Some.champion.0, s))) c.as_slice.ensures.value c.in-Some.ensures in
     let first : best rest ≡ Some (record { id = id; stamp = s.stamp }) = best_left m all rest round c.loop-round.invariant.placed.apart c.in-Some.champion.0 s so in
     let made : c.cover.new.covered ≡ marked id all flags = c.cover.ensures.covered ∙ ap (λ f. marked id all f) c.as_mut_slice-in-loop-round.ensures.value in
     let same_len : length c.cover.new.covered ≡ c.loop-round.covered.len = ap length made ∙ length_marked id all flags ∙ sym c.loop-round.covered.ok.0 in

@@ -1,4 +1,4 @@
-use Rattle.std.proofs.Common.{◌<◌, length, arith, ap, sym, ◌∙◌, ◌++◌, ◌∷◌, [], map}
+use Rattle.std.proofs.Common.{◌<◌, length, arith, ap, sym, ◌∙◌, ◌++◌, ◌∷◌, []}
 use Rattle.std.proofs.lemmas.List.{length-map, map-append, take_more}
 use Rattle.champion_choice.specs.Lists.{shown, standings}
 use Rattle.champion_choice.proofs.ListLaws.{item_at}
