@@ -1,41 +1,41 @@
 // The champions of a segment.
 ghost use Rattle.std.specs.Prelude.{◌≡◌, ◌≤◌, map, IfOk, All};
 ghost use Rattle.ss_base.specs.Champions.{champions};
-ghost use Rattle.champion_choice.specs.Lists.{standings, StampsTell};
+ghost use Rattle.champion_choice.specs.Lists.{shown, StampsTell};
 ghost use Rattle.champion_choice.specs.Scores.{StandsOnce};
 ghost use Rattle.sparse_index.specs.Lists.{list_at};
 ghost use Rattle.history.specs.StandingList.{champions_for};
 ghost use Rattle.store_core.specs.View.{past_of, rules_of};
 
 use crate::State;
-use champion_choice::choose;
+use champion_choice::choose_among;
 use sparse_index::Index;
 use ss_base::{ManifestId, Memory, Name, Standing};
 use std::alloc::Global;
 
 // What stands at each of the hooks.
-fn lists_at<const L: usize>(
+fn lists_at<'a, const L: usize>(
     alloc: Global,
-    index: &Index<L>,
+    index: &'a Index<L>,
     hooks: &[Name],
-) -> Result<Vec<Vec<Standing>>, Memory>
-    ensures { IfOk result (λ lists. standings lists.items ≡ map (list_at index.now) hooks.now) }
+) -> Result<Vec<&'a [Standing]>, Memory>
+    ensures { IfOk result (λ lists. shown lists.items ≡ map (list_at index.now) hooks.now) }
 {
-    let mut lists = Vec::new(alloc);
+    let mut lists = Vec::with_capacity(alloc, hooks.len())?;
     for hook in hooks {
-        lists.push(Vec::from_slice(alloc, index.of(hook))?)?;
+        lists.push(index.of(hook))?;
     }
     Ok(lists)
 }
 
 // The greedy choice over these lists.
-fn greedy<const M: usize>(alloc: Global, lists: &[Vec<Standing>]) -> Result<Vec<ManifestId>, Memory>
+fn greedy<const M: usize>(alloc: Global, lists: &[&[Standing]]) -> Result<Vec<ManifestId>, Memory>
     requires rounds { (1 ≤ M) × (M ≤ 255) }
-    requires once { All StandsOnce (standings lists.now) }
-    requires stamps { StampsTell (standings lists.now) }
-    ensures { IfOk result (λ chosen. chosen.items ≡ champions M (standings lists.now)) }
+    requires once { All StandsOnce (shown lists.now) }
+    requires stamps { StampsTell (shown lists.now) }
+    ensures { IfOk result (λ chosen. chosen.items ≡ champions M (shown lists.now)) }
 {
-    let chosen = choose::<M>(alloc, lists)?;
+    let chosen = choose_among::<M>(alloc, lists)?;
     Ok(Vec::from_slice(alloc, chosen.as_slice())?)
 }
 
