@@ -1,9 +1,8 @@
 -- Scores by their places, and places by ids.
 use Rattle.std.proofs.Common.{◌≡◌, ◌⊎◌, ℕ, zero, suc, ◌+◌, ◌<◌, ◌≤◌, Bool, true, false, eqb, eqb-true, cond, ◌||◌, List, [], ◌∷◌, ◌++◌, length, take, drop, get_or, set, slice_get, Option, Some, None, IfSome, IfNone, refl, sym, ap, ◌∙◌, subst, inl, inr, arith}
-use Rattle.std.specs.Map.{lookup}
 use Rattle.std.specs.Option.{option_map}
 use Rattle.std.specs.HashMap as hash
-use Rattle.std.proofs.lemmas.Bool.{both_ways, false_from_ne_true, cases_Bool, eq-eqb, eqb-false}
+use Rattle.std.proofs.lemmas.Bool.{both_ways, false_from_ne_true, cases_Bool, eq-eqb}
 use Rattle.std.specs.List.{list_any}
 use Rattle.std.proofs.lemmas.List.{take_more, take_all, append-nil, append_assoc}
 use Rattle.ss_base.specs.declared.ids.ManifestId.{ManifestId}
@@ -13,7 +12,7 @@ use Rattle.ss_base.specs.Ids.{same_manifest}
 use Rattle.ss_base.specs.Champions.{stands_in, candidates}
 use Rattle.ss_base.proofs.IdLaws.{same_manifest-self, same_manifest-true}
 use Rattle.champion_choice.specs.declared.score.Score.{Score}
-use Rattle.champion_choice.specs.Scores.{Kept, score_at, hooks_in, hooks_at, stamp_at, id_at, AreApart, AreCells, HasNoPlace, HasNoPlaceBelow, PlaceMap, AreMapped, ArePlaces, HasPlace, HasAdded}
+use Rattle.champion_choice.specs.Scores.{Kept, score_at, hooks_in, hooks_at, stamp_at, id_at, AreApart, AreCells, HasNoPlace, PlaceMap, AreMapped, ArePlaces, HasPlace, HasAdded}
 use Rattle.champion_choice.specs.Lists.{HasCells, ArePlaced}
 
 -- the test that the derive gives
@@ -165,15 +164,6 @@ stamp_end (x ∷ xs) w q t is = by (same_manifest q x.id) (stamp_end xs w q t) i
     by true later is = inl is
     by false later is = later is
 
--- what has a score already
-pub has_old : (m : Kept) (s : Standing) (p : ℕ) → id_at m p ≡ Some s.id → HasPlace m m s p
-has_old m s p is = record {
-  here = is;
-  kept = λ k r at. at;
-  hooks = λ q. refl;
-  stamps = λ q t at. inl at;
-}
-
 -- what has none yet
 module _ (m : Kept) (s : Standing) (w : Score) (id : w.id ≡ s.id) where
   has_new : w.stamp ≡ s.stamp → w.hooks ≡ 0 → HasPlace m (m ++ w ∷ []) s (length m)
@@ -234,38 +224,11 @@ module _ (m : Kept) (s : Standing) (w : Score) (id : w.id ≡ s.id) where
   place_told p new stamp zero_is place is =
       subst (λ (l : Kept). HasPlace m l s p) (sym is) (subst (λ (r : ℕ). HasPlace m (m ++ w ∷ []) s r) (sym place) (has_new stamp zero_is))
 
-no_id : (k : ManifestId) → Some k ≡ None → ⊥
-no_id k e = cc
-
-pub apart_none : AreApart (id_at [])
-apart_none p r k a b = absurd (no_id k (sym a))
-
-pub mapped_none : (map : PlaceMap) → map.entries ≡ [] → AreMapped map []
-mapped_none map none = record {
-  there = λ k p at. absurd (no_id k (sym at));
-  back = λ k p at. absurd (no_place p (sym (ap (λ es. lookup (same_manifest k) es) none) ∙ at));
-}
-
 -- what the map tells
 pub found_is : (map : PlaceMap) (m : Kept) (id : ManifestId) (found : Option ℕ) → AreMapped map m → found ≡ hash.get same_manifest map id
     → IfSome found (λ place. id_at m place ≡ Some id) × IfNone found (HasNoPlace m id)
 found_is map m id None are is = (tt, (λ p at. no_place p (is ∙ are.there id p at)))
 found_is map m id (Some p) are is = (are.back id p (sym is), tt)
-
--- every place has been searched
-pub searched_none : (m : Kept) (id : ManifestId) → HasNoPlaceBelow m id 0
-searched_none m id p below at = absurd (omega arith)
-
-pub searched_more : (m : Kept) (id : ManifestId) (i : ℕ) (d : Score) → i < length m → HasNoPlaceBelow m id i → same_manifest id (get_or m i d).id ≡ false → HasNoPlaceBelow m id (i + 1)
-searched_more m id i d below so apart p low at = elim (cases_Bool (eqb p i)) [
-  | inl here ↦
-      let same : (get_or m i d).id ≡ id = id_here m i d id (ap (id_at m) (sym (eqb-true p i here)) ∙ at) in
-      both_ways (same_manifest id (get_or m i d).id) apart (subst (λ (k : ManifestId). same_manifest id k ≡ true) (sym same) (same_manifest-self id))
-  | inr elsewhere ↦ so p (let ne = eqb-false p i elsewhere in omega (arith, low, ne)) at
-]
-
-pub searched_all : (m : Kept) (id : ManifestId) (i : ℕ) → length m ≤ i → HasNoPlaceBelow m id i → HasNoPlace m id
-searched_all m id i over so p at = so p (let low = id_below m p id at in omega (arith, low, over)) at
 
 -- ---- the places of lists
 
