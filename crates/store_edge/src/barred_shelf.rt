@@ -2,10 +2,11 @@
 ghost use Rattle.std.specs.Prelude.{◌≡◌, None};
 ghost use Rattle.outside.specs.Faults.{HasCause};
 
+use crate::ahead_shelf::AheadShelf;
 use crate::bar::Bar;
-use outside::{DirShelf, Shelf, Trouble};
+use outside::{Shelf, Trouble};
 use std::alloc::Global;
-use std::rt::Files;
+use std::sync::Wait;
 
 /// A shelf of which a call on a barred name is a fault before the shelf is asked. Each other call is the shelf's. It
 /// tells no bytes and keeps no record, only its counts, which begin with 0.
@@ -29,7 +30,7 @@ impl<'a, F: Shelf> BarredShelf<'a, F> {
     }
 }
 
-impl<R: Files + Sync> BarredShelf<'_, DirShelf<'_, R>> {
+impl<R: Wait> BarredShelf<'_, AheadShelf<'_, R>> {
     /// Puts on the disk what calls on the folder's shelf changed.
     pub fn sync(&mut self) -> Result<(), Trouble> {
         self.shelf.sync()

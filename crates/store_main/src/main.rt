@@ -3,12 +3,16 @@
 
 mod usage;
 
-use outside::{DirShelf, ReadSource, WriteSink};
+use crossbeam_channel::{Sender, bounded};
+use outside::{ReadSource, WriteSink};
 use ss_base::Memory;
 use std::process::ExitCode;
 use std::rt::Env;
-use std::{env, io};
-use store_edge::{Bar, BarredShelf, Turn, status_beside, take_turn};
+use std::sync::Wait;
+use std::{env, io, thread};
+use store_edge::{
+    AheadShelf, Bar, BarredShelf, Turn, WAITING, put_ahead, status_beside, take_turn,
+};
 use store_run::{Lane, run_solo};
 use usage::use_of;
 
@@ -16,24 +20,43 @@ const FILES: &str = ".";
 
 const DEPOT: &str = "ssdepot";
 
+const JOURNAL: &str = "journal";
+
 const FILES_FAULT: u8 = 3;
 
 const DEPOT_FAULT: u8 = 4;
 
 const OUT_OF_MEMORY: u8 = 8;
 
+// Beside the run a thread puts its files on the disk early. It ends when the run has dropped the sender.
 fn main(rt: HostRuntime) -> ExitCode {
-    let status = run(&rt).unwrap_or(OUT_OF_MEMORY);
+    let Ok((sender, paths)) = bounded(rt.alloc(), WAITING) else {
+        return ExitCode::from(OUT_OF_MEMORY);
+    };
+    let (_, status) = thread::join(
+        &rt,
+        || put_ahead(&rt, &paths),
+        || run_told(&rt, &rt, sender),
+    );
     ExitCode::from(status)
+}
+
+// The run, and then no path comes any more.
+fn run_told<R: Wait>(host: &HostRuntime, rt: &R, paths: Sender<String>) -> u8 {
+    run(host, rt, &paths).unwrap_or(OUT_OF_MEMORY)
 }
 
 // The lock is held until all is on the disk. Where another run holds it, each call on the depot fails, and the depot
 // is not touched.
-fn run(rt: &HostRuntime) -> Result<u8, Memory> {
-    let words = words(rt)?;
-    let files = DirShelf::new(rt, String::from_str(rt.alloc(), FILES)?);
-    let depot = DirShelf::new(rt, String::from_str(rt.alloc(), DEPOT)?);
-    let turn = take_turn(rt, FILES, DEPOT, use_of(&words));
+fn run<'a, R: Wait>(
+    host: &'a HostRuntime,
+    rt: &'a R,
+    paths: &'a Sender<String>,
+) -> Result<u8, Memory> {
+    let words = words(host)?;
+    let files = AheadShelf::new(host, rt, FILES, None, paths)?;
+    let depot = AheadShelf::new(host, rt, DEPOT, Some(JOURNAL), paths)?;
+    let turn = take_turn(host, FILES, DEPOT, use_of(&words));
     let barred = match &turn {
         Turn::Refused => Bar::All,
         Turn::Free | Turn::Locked(_) => Bar::Nothing,
@@ -42,9 +65,9 @@ fn run(rt: &HostRuntime) -> Result<u8, Memory> {
         files: BarredShelf::new(files, Bar::Folder(DEPOT)),
         depot: BarredShelf::new(depot, barred),
     };
-    let mut script = ReadSource::new(rt.stdin());
-    let mut out = WriteSink::new(rt.stdout());
-    let status = run_solo(rt.alloc(), &words, &mut script, &mut out, &mut lane);
+    let mut script = ReadSource::new(host.stdin());
+    let mut out = WriteSink::new(host.stdout());
+    let status = run_solo(host.alloc(), &words, &mut script, &mut out, &mut lane);
     let status = status_beside(status, lane.depot.sync(), DEPOT_FAULT);
     let status = status_beside(status, lane.files.sync(), FILES_FAULT);
     drop(turn);
