@@ -11,7 +11,7 @@ use std::sync::Wait;
 /// A shelf over a folder that tells which of its files [`crate::put_ahead`] is to put on the disk: the one written to
 /// before, when another one is, and one that grew by [`crate::PART`]. So a sync finds little left to do; what it
 /// promises is as ever. One object may name the others: before it is added to, all is put on the disk, and where that
-/// fails nothing is added. Each other call is the shelf's, and so is what is told.
+/// fails nothing is added. It tells no bytes and keeps no record, only its counts.
 #[derive(Drop)]
 pub struct AheadShelf<'a, R: Wait> {
     shelf: DirShelf<'a, HostRuntime>,

@@ -1,5 +1,5 @@
-//! What stands between a process and a run: the lock on a store's folder, names that no run may touch, and what a
-//! failed sync does to the status.
+//! What stands between a process and a run: the lock on a store's folder, names that no run may touch, files that a
+//! thread puts on the disk early, and what a failed sync does to the status.
 #![tactic(auto)]
 
 mod ahead_shelf;
