@@ -11,8 +11,17 @@ use std::alloc::Global;
 use std::sync::Wait;
 use store_shared::{Pass, Store};
 
-// A lane with a pass, its number, its files, of which `in` is its stream, a handle on the depot's objects, and the name
-// that it backs its stream up under.
+// What a lane does besides, each time that it backs its stream up and deletes it.
+#[derive(Clone, Copy)]
+pub(crate) enum Work {
+    // It restores the stream before it deletes it.
+    Restore,
+    // It reclaims what nothing needs once the stream is deleted.
+    Reclaim,
+}
+
+// A lane with a pass, its number, its files, of which `in` is its stream, a handle on the depot's objects, the name that
+// it backs its stream up under, and its work.
 #[derive(Drop)]
 pub(crate) struct Lane<'a, R: Wait + Sync> {
     pub pass: Pass,
@@ -20,6 +29,7 @@ pub(crate) struct Lane<'a, R: Wait + Sync> {
     pub files: MemShelf,
     pub objects: RecordShelf<'a, R>,
     pub name: StreamName,
+    pub work: Work,
 }
 
 fn are_equal(files: &MemShelf) -> bool {
@@ -32,85 +42,46 @@ fn are_equal(files: &MemShelf) -> bool {
     input == output
 }
 
-// Backs the stream up, restores it, and deletes it. Answers whether it came back.
-fn back_and_forth<R: Wait + Sync>(
+// Where this is the lane's work, restores the stream and erases what was written. Answers whether it came back.
+fn restores<R: Wait + Sync>(
     rt: &R,
     alloc: Global,
     store: &Store<8, 8>,
     pass: Pass,
-    lane: (u32, StreamName),
+    lane: (u32, StreamName, Work),
     files: &mut MemShelf,
     depot: &mut Depot<'_, RecordShelf<'_, R>>,
-    cache: &mut ManifestCache,
 ) -> (Pass, bool)
     requires { pass.turns ≡ store.now }
     ensures { result.0.turns ≡ store.now }
 {
-    let (number, name) = lane;
-    let gate = &OpenGate;
-    let (pass, stored) = backup_shared(
-        alloc, store, rt, pass, number, gate, files, "in", name, depot, cache,
-    );
-    let (pass, restored) = restore_shared(
-        alloc, store, rt, pass, number, gate, files, name, "out", depot,
-    );
-    let came_back = stored.is_ok() && restored.is_ok() && are_equal(files);
-    let erased = files.erase("out");
-    let (pass, deleted) = store.delete(rt, pass, name);
-    (pass, came_back && erased.is_ok() && deleted.is_ok())
-}
-
-// So often; answers whether the stream came back each time.
-pub(crate) fn restores<R: Wait + Sync>(
-    rt: &R,
-    alloc: Global,
-    store: &Store<8, 8>,
-    lane: Lane<'_, R>,
-    times: u32,
-) -> (Pass, bool)
-    requires { lane.pass.turns ≡ store.now }
-    ensures { result.0.turns ≡ store.now }
-{
-    let Lane {
-        mut pass,
-        number,
-        mut files,
-        mut objects,
-        name,
-    } = lane;
-    let Ok(mut cache) = ManifestCache::new(alloc, 64) else {
-        return (pass, false);
+    let (number, name, work) = lane;
+    let Work::Restore = work else {
+        return (pass, true);
     };
-    let mut depot = Depot::over(&mut objects);
-    let mut all = true;
-    for _ in 0..times {
-        let (back, came_back) = back_and_forth(
-            rt,
-            alloc,
-            store,
-            pass,
-            (number, name),
-            &mut files,
-            &mut depot,
-            &mut cache,
-        );
-        pass = back;
-        all = all && came_back;
-    }
-    (pass, all)
+    let (pass, restored) = restore_shared(
+        alloc, store, rt, pass, number, &OpenGate, files, name, "out", depot,
+    );
+    let came_back = restored.is_ok() && are_equal(files);
+    let erased = files.erase("out");
+    (pass, came_back && erased.is_ok())
 }
 
-// Has what a reclaim gives over removed.
-fn sweep<R: Wait + Sync>(
+// Where this is the lane's work, has what a reclaim gives over removed. Answers whether no call failed.
+fn reclaims<R: Wait + Sync>(
     rt: &R,
     alloc: Global,
     store: &Store<8, 8>,
     pass: Pass,
+    work: Work,
     depot: &mut Depot<'_, RecordShelf<'_, R>>,
 ) -> (Pass, bool)
     requires { pass.turns ≡ store.now }
     ensures { result.0.turns ≡ store.now }
 {
+    let Work::Reclaim = work else {
+        return (pass, true);
+    };
     let (pass, answer) = store.reclaim(rt, alloc, pass);
     let Ok(removals) = answer else {
         return (pass, false);
@@ -122,13 +93,13 @@ fn sweep<R: Wait + Sync>(
     (pass, all)
 }
 
-// Backs the stream up, deletes it, and reclaims what nothing needs.
+// Backs the stream up and deletes it, and does the lane's work. Answers whether all of it went well.
 fn comes_and_goes<R: Wait + Sync>(
     rt: &R,
     alloc: Global,
     store: &Store<8, 8>,
     pass: Pass,
-    lane: (u32, StreamName),
+    lane: (u32, StreamName, Work),
     files: &mut MemShelf,
     depot: &mut Depot<'_, RecordShelf<'_, R>>,
     cache: &mut ManifestCache,
@@ -136,17 +107,21 @@ fn comes_and_goes<R: Wait + Sync>(
     requires { pass.turns ≡ store.now }
     ensures { result.0.turns ≡ store.now }
 {
-    let (number, name) = lane;
+    let (number, name, work) = lane;
     let (pass, stored) = backup_shared(
         alloc, store, rt, pass, number, &OpenGate, files, "in", name, depot, cache,
     );
+    let (pass, came_back) = restores(rt, alloc, store, pass, lane, files, depot);
     let (pass, deleted) = store.delete(rt, pass, name);
-    let (pass, swept) = sweep(rt, alloc, store, pass, depot);
-    (pass, stored.is_ok() && deleted.is_ok() && swept)
+    let (pass, reclaimed) = reclaims(rt, alloc, store, pass, work, depot);
+    (
+        pass,
+        stored.is_ok() && came_back && deleted.is_ok() && reclaimed,
+    )
 }
 
-// So often; answers whether no call failed.
-pub(crate) fn sweeps<R: Wait + Sync>(
+// So often; answers whether all of it went well each time.
+pub(crate) fn repeats<R: Wait + Sync>(
     rt: &R,
     alloc: Global,
     store: &Store<8, 8>,
@@ -162,6 +137,7 @@ pub(crate) fn sweeps<R: Wait + Sync>(
         mut files,
         mut objects,
         name,
+        work,
     } = lane;
     let Ok(mut cache) = ManifestCache::new(alloc, 64) else {
         return (pass, false);
@@ -174,7 +150,7 @@ pub(crate) fn sweeps<R: Wait + Sync>(
             alloc,
             store,
             pass,
-            (number, name),
+            (number, name, work),
             &mut files,
             &mut depot,
             &mut cache,

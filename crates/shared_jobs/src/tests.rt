@@ -1,7 +1,7 @@
 // Lanes on one store, each in a thread.
 ghost use Rattle.std.specs.Prelude.{◌≡◌, ℕ, [], Some, IfOk};
 
-use crate::test_lanes::{Lane, restores, sweeps};
+use crate::test_lanes::{Lane, Work, repeats};
 use history::{Entry, Limits, Point};
 use outside::{MemShelf, RecordShelf};
 use ss_base::{Memory, Profile, StreamName};
@@ -74,6 +74,7 @@ fn lane<'a, R: Wait + Sync>(
     pass: Pass,
     number: u32,
     own: u8,
+    work: Work,
     objects: &RecordShelf<'a, R>,
 ) -> Result<Lane<'a, R>, Fail>
     ensures { IfOk result (λ lane. lane.pass ≡ pass) }
@@ -87,6 +88,7 @@ fn lane<'a, R: Wait + Sync>(
         files,
         objects,
         name,
+        work,
     })
 }
 
@@ -103,9 +105,9 @@ fn lanes<'a, R: Wait + Sync>(
     ensures third { IfOk result (λ r. r.2.pass ≡ third) }
 {
     let objects = RecordShelf::new(rt, alloc)?;
-    let one = lane(alloc, first, 1, b'x', &objects)?;
-    let other = lane(alloc, second, 2, b'y', &objects)?;
-    let third = lane(alloc, third, 3, b'z', &objects)?;
+    let one = lane(alloc, first, 1, b'x', Work::Restore, &objects)?;
+    let other = lane(alloc, second, 2, b'y', Work::Restore, &objects)?;
+    let third = lane(alloc, third, 3, b'z', Work::Reclaim, &objects)?;
     Ok((one, other, third))
 }
 
@@ -126,11 +128,11 @@ fn two<R: Threads + Wait + Sync>(
         || -> (Pass, bool)
             requires { one.pass.turns ≡ store.now }
             ensures { result.0.turns ≡ store.entry.now }
-        { restores(rt, alloc, store, one, 100) },
+        { repeats(rt, alloc, store, one, 100) },
         || -> (Pass, bool)
             requires { other.pass.turns ≡ store.now }
             ensures { result.0.turns ≡ store.entry.now }
-        { restores(rt, alloc, store, other, 100) },
+        { repeats(rt, alloc, store, other, 100) },
     );
     (store.join(one.0, other.0), one.1 && other.1)
 }
@@ -159,7 +161,7 @@ fn three<R: Threads + Wait + Sync>(
         || -> (Pass, bool)
             requires { third.pass.turns ≡ store.now }
             ensures { result.0.turns ≡ store.entry.now }
-        { sweeps(rt, alloc, store, third, 100) },
+        { repeats(rt, alloc, store, third, 100) },
     );
     (store.join(both.0, third.0), both.1 && third.1)
 }
