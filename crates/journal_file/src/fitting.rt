@@ -4,7 +4,7 @@ ghost use Rattle.std.specs.List.{AllByRecursion};
 ghost use Rattle.ss_base.specs.StreamName.{IsStreamName};
 ghost use Rattle.journal_entry.specs.Bounds.{IsDigest, FitsManifest, FitsContainer, FitsObject, FitsSeen, FitTotals, PointFits, IsEntry, IsWithinBounds};
 
-use journal_entry::{Entry, Point, Seen, Totals};
+use journal_entry::{Entry, Items, Point, Seen, Totals};
 use ss_base::{ContainerId, ManifestId, Name, Object, StreamName};
 
 /// Each of the entries can be read from its text.
@@ -25,23 +25,23 @@ fn entry_fits(entry: &Entry)
     point_fits(&entry.point);
 }
 
+// Each of the fields fits.
+macro_rules! fit {
+    ($($field:ident),+) => {{
+        $($field.fits();)+
+    }};
+}
+
 fn point_fits(point: &Point)
     ensures { PointFits point.now }
 {
     match point {
-        Point::Begin { name, session } | Point::Delete { name, session } => {
-            name.fits();
-            reply_fits(session);
-        }
+        Point::Begin { name, session } | Point::Delete { name, session } => fit!(name, session),
         Point::Choose {
             session,
             hooks,
             champions,
-        } => {
-            session.fits();
-            all_fit(hooks.as_slice());
-            all_fit(champions.as_slice());
-        }
+        } => fit!(session, hooks, champions),
         Point::Commit {
             manifest,
             content,
@@ -52,54 +52,22 @@ fn point_fits(point: &Point)
             fresh_bytes,
             uses,
         } => {
-            manifest.fits();
-            content.fits();
-            text.fits();
-            chunks.fits();
-            bytes.fits();
-            fresh.fits();
-            fresh_bytes.fits();
-            all_fit(uses.as_slice());
+            fit!(manifest, content, text, uses);
+            fit!(chunks, bytes, fresh, fresh_bytes);
         }
         Point::Finish {
             session,
             containers,
-        } => {
-            session.fits();
-            containers.fits();
-        }
+        } => fit!(session, containers),
         Point::Abort {
             session,
             containers,
             texts,
-        } => {
-            session.fits();
-            containers.fits();
-            texts.fits();
-        }
-        Point::Look { name, seen } => {
-            name.fits();
-            reply_fits(seen);
-        }
+        } => fit!(session, containers, texts),
+        Point::Look { name, seen } => fit!(name, seen),
         Point::Done { reader } => reader.fits(),
-        Point::Reclaim { objects } => all_fit(objects.as_slice()),
+        Point::Reclaim { objects } => objects.fits(),
         Point::Stat { totals } => totals.fits(),
-    }
-}
-
-fn reply_fits<T: Fits>(reply: &Option<T>)
-    ensures { IfSome reply.now T.its_place }
-{
-    if let Some(value) = reply {
-        value.fits();
-    }
-}
-
-fn all_fit<T: Fits>(items: &[T])
-    ensures { AllByRecursion T.its_place items.now }
-{
-    for item in items {
-        item.fits();
     }
 }
 
@@ -109,6 +77,26 @@ trait Fits {
 
     fn fits(&self)
         ensures { its_place self.now };
+}
+
+impl<T: Fits> Fits for Option<T> {
+    ghost its_place = { λ value. IfSome value T.its_place };
+
+    fn fits(&self) {
+        if let Some(value) = self {
+            value.fits();
+        }
+    }
+}
+
+impl<T: Fits> Fits for Items<T> {
+    ghost its_place = { AllByRecursion T.its_place };
+
+    fn fits(&self) {
+        for item in self.as_slice() {
+            item.fits();
+        }
+    }
 }
 
 impl Fits for u32 {
